@@ -1,0 +1,16 @@
+// Plans: trees of areas read out of six-byte records.
+mod accepted;
+mod area;
+mod make;
+mod queries;
+mod reading;
+mod refusal;
+mod tree;
+
+pub use accepted::Plan;
+pub use area::Area;
+pub use area::AreaLinked;
+pub use area::Place;
+pub use area::Slots;
+pub use refusal::Refusal;
+pub use refusal::RefusalDisplay;
