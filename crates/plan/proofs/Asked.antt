@@ -99,24 +99,24 @@ module _ (areas : List Area) where
   place-within-plan i = placed-all (Within 0 (slotCount areas)) (omega arith, omega arith, omega arith) (walkOf areas) (all-weaker _ (Within 0 (slotCount areas)) (λ p w. (w .0, w .1, omega (arith, w .2))) (walkOf areas) (walk-within _ 0 1 0)) i
 
 -- climbing a step at a time
-pub climb-none : (areas : List Area) (i : ℕ) → climb areas 0 i ≡ i
+pub climb-none : (areas : List Area) (i : ℕ) → climb (parentOf areas) 0 i ≡ i
 unfolding climb
 climb-none areas i = refl
 
-pub climb-more : (areas : List Area) (k i : ℕ) → 1 ≤ k → climb areas k i ≡ parentOf areas (climb areas (k - 1) i)
+pub climb-more : (areas : List Area) (k i : ℕ) → 1 ≤ k → climb (parentOf areas) k i ≡ parentOf areas (climb (parentOf areas) (k - 1) i)
 unfolding climb
 climb-more areas zero i l = absurd (omega arith)
 climb-more areas (suc k) i l = let e : suc k - 1 ≡ k = omega arith in rw e
 
-pub meet-none : (areas : List Area) (k l x y : ℕ) → k ≡ 0 → meetFrom areas k l x y ≡ l
+pub meet-none : (areas : List Area) (k l x y : ℕ) → k ≡ 0 → meetFrom (parentOf areas) k l x y ≡ l
 unfolding meetFrom
 meet-none areas k l x y e = rw e
 
-pub meet-here : (areas : List Area) (k l x y : ℕ) → x ≡ y → meetFrom areas k l x y ≡ l
+pub meet-here : (areas : List Area) (k l x y : ℕ) → x ≡ y → meetFrom (parentOf areas) k l x y ≡ l
 unfolding meetFrom
 meet-here areas zero l x y e = refl
 meet-here areas (suc k) l x y e = cond-true _ _ _ (eq-eqb x y e)
 
-pub meet-more : (areas : List Area) (k m l x y : ℕ) → k ≡ m + 1 → (x ≡ y → ⊥) → meetFrom areas k l x y ≡ meetFrom areas m (l + 1) (parentOf areas x) (parentOf areas y)
+pub meet-more : (areas : List Area) (k m l x y : ℕ) → k ≡ m + 1 → (x ≡ y → ⊥) → meetFrom (parentOf areas) k l x y ≡ meetFrom (parentOf areas) m (l + 1) (parentOf areas x) (parentOf areas y)
 unfolding meetFrom
 meet-more areas k m l x y km ne = rw (km, add-one) (cond-false _ _ _ (ne-eqb x y ne))

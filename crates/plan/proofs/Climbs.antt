@@ -83,7 +83,7 @@ module _ (areas : List Area) (plan : isPlan areas ≡ true) where
       (d .0, n, u .levels (d .0) (d .1), u .parents (d .0) (d .1), d .2)
 
   -- from an area down to the lowest area that contains the slot
-  pub lowest-at : (l x slot : ℕ) → numbered (length areas) x ≡ true → areaAt areas x .level ≡ l + 1 → Contains areas x slot → (a : ℕ) × (isLowest areas a ≡ true) × Contains areas a slot × (climb areas l a ≡ x)
+  pub lowest-at : (l x slot : ℕ) → numbered (length areas) x ≡ true → areaAt areas x .level ≡ l + 1 → Contains areas x slot → (a : ℕ) × (isLowest areas a ≡ true) × Contains areas a slot × (climb (parentOf areas) l a ≡ x)
   unfolding climb
   lowest-at zero x slot t e c = (x, lowest-from x t (omega arith), c, refl)
   lowest-at (suc l) x slot t e c =
@@ -103,12 +103,12 @@ module _ (areas : List Area) (plan : isPlan areas ≡ true) where
     parent-over = let h = parent-place in subst (λ q. Over q (placeOf areas c)) (sym (place-alone areas plan (parentOf areas c) parent-numbered (h .0) (h .1) (h .2 .0))) (h .2)
 
   -- k levels up, from a lowest area
-  pub climbed : (a k : ℕ) → isLowest areas a ≡ true → k < topLevel areas → (numbered (length areas) (climb areas k a) ≡ true) × (areaAt areas (climb areas k a) .level ≡ k + 1) × (placeOf areas (climb areas k a) .before ≤ placeOf areas a .before) × (placeOf areas a .after ≤ placeOf areas (climb areas k a) .after)
+  pub climbed : (a k : ℕ) → isLowest areas a ≡ true → k < topLevel areas → (numbered (length areas) (climb (parentOf areas) k a) ≡ true) × (areaAt areas (climb (parentOf areas) k a) .level ≡ k + 1) × (placeOf areas (climb (parentOf areas) k a) .before ≤ placeOf areas a .before) × (placeOf areas a .after ≤ placeOf areas (climb (parentOf areas) k a) .after)
   unfolding climb
   climbed a zero low l = let p = lowest-parts a low in (p .0, omega arith, omega arith, omega arith)
   climbed a (suc k) low l =
       let r = climbed a k low (omega arith) in
-      let c = climb areas k a in
+      let c = climb (parentOf areas) k a in
       let up : areaAt areas c .level < topLevel areas = omega (arith, r .1) in
       let t = parent-numbered c (r .0) up in
       let o = parent-over c (r .0) up in

@@ -20,33 +20,33 @@ use Rattle.plan.proofs.Climbs.{own-slots, own-home, lowest-at, climbed, top-hi
 
 -- the lowest level at which two areas are together
 module _ (areas : List Area) where
-  meet-within : (k l x y : ℕ) → (l ≤ meetFrom areas k l x y) × (meetFrom areas k l x y ≤ l + k)
+  meet-within : (k l x y : ℕ) → (l ≤ meetFrom (parentOf areas) k l x y) × (meetFrom (parentOf areas) k l x y ≤ l + k)
   unfolding meetFrom
   meet-within zero l x y = omega arith
   meet-within (suc k) l x y =
       cond-both (eqb x y) _ _ (λ r. (l ≤ r) × (r ≤ l + suc k)) (λ _. omega arith) (λ _. omega (arith, meet-within k (l + 1) (parentOf areas x) (parentOf areas y)))
 
   module _ (a b : ℕ) where
-    meet-together : (k m l : ℕ) → l ≡ m + 1 → climb areas (m + k) a ≡ climb areas (m + k) b → areaOver areas (meetFrom areas k l (climb areas m a) (climb areas m b)) a ≡ areaOver areas (meetFrom areas k l (climb areas m a) (climb areas m b)) b
+    meet-together : (k m l : ℕ) → l ≡ m + 1 → climb (parentOf areas) (m + k) a ≡ climb (parentOf areas) (m + k) b → areaOver areas (meetFrom (parentOf areas) k l (climb (parentOf areas) m a) (climb (parentOf areas) m b)) a ≡ areaOver areas (meetFrom (parentOf areas) k l (climb (parentOf areas) m a) (climb (parentOf areas) m b)) b
     unfolding meetFrom climb
     meet-together zero m l e h =
-        let at : m + 0 ≡ l - 1 = omega arith in subst (λ n. climb areas n a ≡ climb areas n b) at h
+        let at : m + 0 ≡ l - 1 = omega arith in subst (λ n. climb (parentOf areas) n a ≡ climb (parentOf areas) n b) at h
     meet-together (suc k) m l e h =
         let at : m ≡ l - 1 = omega arith in
         let far : m + suc k ≡ suc m + k = omega arith in
-        cond-both (eqb (climb areas m a) (climb areas m b)) _ _ (λ r. areaOver areas r a ≡ areaOver areas r b)
-        (λ t. subst (λ n. climb areas n a ≡ climb areas n b) at (eqb-true _ _ t))
-        (λ _. meet-together k (suc m) (l + 1) (omega arith) (subst (λ n. climb areas n a ≡ climb areas n b) far h))
+        cond-both (eqb (climb (parentOf areas) m a) (climb (parentOf areas) m b)) _ _ (λ r. areaOver areas r a ≡ areaOver areas r b)
+        (λ t. subst (λ n. climb (parentOf areas) n a ≡ climb (parentOf areas) n b) at (eqb-true _ _ t))
+        (λ _. meet-together k (suc m) (l + 1) (omega arith) (subst (λ n. climb (parentOf areas) n a ≡ climb (parentOf areas) n b) far h))
 
-    meet-apart : (k m l level : ℕ) → l ≡ m + 1 → l ≤ level → level < meetFrom areas k l (climb areas m a) (climb areas m b) → areaOver areas level a ≡ areaOver areas level b → ⊥
+    meet-apart : (k m l level : ℕ) → l ≡ m + 1 → l ≤ level → level < meetFrom (parentOf areas) k l (climb (parentOf areas) m a) (climb (parentOf areas) m b) → areaOver areas level a ≡ areaOver areas level b → ⊥
     unfolding meetFrom climb
     meet-apart zero m l level e f g h = omega arith
     meet-apart (suc k) m l level e f g h =
-        cond-both (eqb (climb areas m a) (climb areas m b)) _ _ (λ r. level < r → ⊥)
+        cond-both (eqb (climb (parentOf areas) m a) (climb (parentOf areas) m b)) _ _ (λ r. level < r → ⊥)
         (λ _ s. omega arith)
         (λ apart s.
         ⊎-elim
-        (λ (q : l ≡ level). let at : level - 1 ≡ m = omega arith in eqb-false _ _ apart (subst (λ n. climb areas n a ≡ climb areas n b) at h))
+        (λ (q : l ≡ level). let at : level - 1 ≡ m = omega arith in eqb-false _ _ apart (subst (λ n. climb (parentOf areas) n a ≡ climb (parentOf areas) n b) at h))
         (λ (q : l ≡ level → ⊥). meet-apart k (suc m) (l + 1) level (omega arith) (omega (arith, q)) s h)
         (cases-eq l level)) g
 
@@ -57,7 +57,7 @@ module _ (areas : List Area) where
   over-next (suc k) a l =
       let up : suc k + 1 - 1 ≡ suc k = omega arith in
       let here : k ≡ suc k - 1 = omega arith in
-      ap (λ n. climb areas n a) up ∙ ap (λ n. parentOf areas (climb areas n a)) here
+      ap (λ n. climb (parentOf areas) n a) up ∙ ap (λ n. parentOf areas (climb (parentOf areas) n a)) here
 
 module _ (areas : List Area) (plan : isPlan areas ≡ true) where
   -- a slot that x contains
@@ -90,7 +90,7 @@ module _ (areas : List Area) (plan : isPlan areas ≡ true) where
   common a b low low′ =
       let w = meet-within areas (topLevel areas - 1) 1 a b in
       let at : topLevel areas - 1 ≡ 0 + (topLevel areas - 1) = omega arith in
-      (w .0, omega (arith, w .1, top-high areas plan), meet-together areas a b (topLevel areas - 1) 0 1 refl (subst (λ n. climb areas n a ≡ climb areas n b) at (top a low ∙ sym (top b low′))))
+      (w .0, omega (arith, w .1, top-high areas plan), meet-together areas a b (topLevel areas - 1) 0 1 refl (subst (λ n. climb (parentOf areas) n a ≡ climb (parentOf areas) n b) at (top a low ∙ sym (top b low′))))
 
   apart-below : (a b level : ℕ) → 1 ≤ level → level < commonLevel areas a b → areaOver areas level a ≡ areaOver areas level b → ⊥
   unfolding climb

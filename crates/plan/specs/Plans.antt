@@ -74,20 +74,20 @@ homeOf areas slot = getD (homesOf areas) (place slot) 0
 abbrev pub parentOf : List Area → ℕ → ℕ
 parentOf areas i = placeOf areas i .parent
 
--- The area k levels over area i.
-unfoldable pub climb : List Area → ℕ → ℕ → ℕ
-climb areas zero i = i
-climb areas (suc k) i = parentOf areas (climb areas k i)
+-- The area k levels over area i, where `parent` leads one level up.
+unfoldable pub climb : (ℕ → ℕ) → ℕ → ℕ → ℕ
+climb parent zero i = i
+climb parent (suc k) i = parent (climb parent k i)
 
 -- The area over lowest area i at a level; itself at level 1.
 abbrev pub areaOver : List Area → ℕ → ℕ → ℕ
-areaOver areas level i = climb areas (level - 1) i
+areaOver areas level i = climb (parentOf areas) (level - 1) i
 
 -- From level l on, at most k levels higher, the lowest level at which the areas over x and y are one.
-unfoldable pub meetFrom : List Area → ℕ → ℕ → ℕ → ℕ → ℕ
-meetFrom areas zero l x y = l
-meetFrom areas (suc k) l x y = cond (eqb x y) l (meetFrom areas k (l + 1) (parentOf areas x) (parentOf areas y))
+unfoldable pub meetFrom : (ℕ → ℕ) → ℕ → ℕ → ℕ → ℕ → ℕ
+meetFrom parent zero l x y = l
+meetFrom parent (suc k) l x y = cond (eqb x y) l (meetFrom parent k (l + 1) (parent x) (parent y))
 
 -- The lowest level at which one area contains lowest areas x and y.
 abbrev pub commonLevel : List Area → ℕ → ℕ → ℕ
-commonLevel areas x y = meetFrom areas (topLevel areas - 1) 1 x y
+commonLevel areas x y = meetFrom (parentOf areas) (topLevel areas - 1) 1 x y

@@ -13,4 +13,4 @@ pub loop-k-again : need.loop-k-again
 loop-k-again c =
     let areas = vec-items (c .args .self .now .areas) in
     let e : c .loop-k .k + 1 - 1 ≡ c .loop-k .k = omega arith in
-    c .parent-over .ensures ∙ ap (parentOf areas) (c .loop-k .inv) ∙ sym (climb-more areas (c .loop-k .k) (c .args .i) (c .loop-k .kept .k)) ∙ ap (λ k. climb areas k (c .args .i)) (sym e)
+    c .parent-over .ensures ∙ ap (parentOf areas) (c .loop-k .inv) ∙ sym (climb-more areas (c .loop-k .k) (c .args .i) (c .loop-k .kept .k)) ∙ ap (λ k. climb (parentOf areas) k (c .args .i)) (sym e)

@@ -21,8 +21,8 @@ loop-level-again c =
     let left = topLevel areas - (c .loop-level .level + 1) in
     c .loop-level .inv
     ∙ meet-more areas _ left _ _ _ (omega (arith, c .loop-level-test .taken, c .top-level-level-end .ensures)) (c .if-over-x-over-y .left)
-    ∙ ap (λ x. meetFrom areas left (c .loop-level .level + 1) x (parentOf areas (c .loop-level .over-y))) (sym (c .parent-over-x .ensures))
-    ∙ ap (λ y. meetFrom areas left (c .loop-level .level + 1) (c .parent-over-x .result) y) (sym (c .parent-over-y .ensures))
+    ∙ ap (λ x. meetFrom (parentOf areas) left (c .loop-level .level + 1) x (parentOf areas (c .loop-level .over-y))) (sym (c .parent-over-x .ensures))
+    ∙ ap (λ y. meetFrom (parentOf areas) left (c .loop-level .level + 1) (c .parent-over-x .result) y) (sym (c .parent-over-y .ensures))
 
 pub returns : need.returns
 returns c =
