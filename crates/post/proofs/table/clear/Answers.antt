@@ -1,0 +1,5 @@
+use Rattle.post.proofs.Tables.{clear-kept}
+use Rattle.post.proofs.table.clear.Needs as need
+
+pub returns : need.returns
+returns c = clear-kept (c .args .table .now) (c .args .mark) (c .pre .kept)

@@ -1,0 +1,4 @@
+pub mod Marks
+pub mod Table
+pub mod Letters
+pub mod Orders

@@ -1,0 +1,3 @@
+pub mod Scenarios
+pub mod Numbered
+pub mod Drains

@@ -1,0 +1,11 @@
+-- The scenarios, by computing.
+use mathlib.Core.Path.{refl}
+use Rattle.plan.specs.Plans.{climb, meetFrom}
+use Rattle.plan.specs.Reading.{readPlan}
+use Rattle.plan.specs.Tree.{isTree}
+use Rattle.plan.specs.Walk.{along, walkFrom}
+use Rattle.state.specs.Scenarios.{Scenarios-come-out}
+
+pub scenarios-come-out : Scenarios-come-out
+unfolding climb meetFrom readPlan isTree along walkFrom
+scenarios-come-out = (refl, (refl, (refl, (refl, (refl, (refl, (refl, tt)))))))

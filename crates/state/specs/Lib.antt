@@ -1,0 +1,15 @@
+pub mod Refusals
+pub mod Registers
+pub mod Holds
+pub mod Tables
+pub mod Layout
+pub mod Blocks
+pub mod Memory
+pub mod Turns
+pub mod Messages
+pub mod Calls
+pub mod Runs
+pub mod Pasts
+pub mod Promises
+pub mod Drains
+pub mod Scenarios

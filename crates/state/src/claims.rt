@@ -1,0 +1,17 @@
+//! What is proved of the rules by themselves. Each function carries a statement in its contract and does nothing.
+ghost use Rattle.state.specs.Drains.{Drained-in-any-order};
+ghost use Rattle.state.specs.Scenarios.{Scenarios-come-out};
+
+/// The worked scenarios on the sample plan come out as they should.
+pub fn scenarios_come_out() -> u8
+    ensures { λ _. ⌜ Scenarios-come-out ⌝ }
+{
+    0
+}
+
+/// Marks taken one by one, in whatever order, until none waits in an area, leave the drained memory.
+pub fn drained_in_any_order() -> u8
+    ensures { λ _. ⌜ Drained-in-any-order ⌝ }
+{
+    0
+}
