@@ -1,9 +1,10 @@
 // Tries the reading of plans. Each line of standard input is a plan in hexadecimal, and after a space there may be a note of what it shows;
-// for each it prints `ok`, or the number of the refusal and the record that it names, 0 where it names none.
+// for each it prints `ok`, or the refusal with its number and the record that it names, 0 where it names none.
 //
 // The file `stdin` has 400 plans, and below them, with notes, plans at the edges of each rule; `stdout` has the answers: to the
 // former those that a model made apart gives, to the latter those that the rules give, worked out by hand.
 use plan::Plan;
+use plan::RefusalDisplay;
 use std::alloc::Global;
 use std::error::AnyError;
 use std::io::BufRead;
@@ -41,13 +42,7 @@ fn run(rt: &LibcRuntime) -> Result<(), AnyError> {
         let bytes = bytes_of(heap, line?.as_bytes())?;
         match Plan::read(heap, &bytes) {
             Ok(_) => println!(rt, "ok")?,
-            Err(refusal) => {
-                let record = refusal.record();
-                match refusal.number() {
-                    Some(number) => println!(rt, "{number} {record}")?,
-                    None => return Err("no memory".into()),
-                }
-            }
+            Err(refusal) => println!(rt, "{refusal}")?,
         }
     }
     Ok(())
