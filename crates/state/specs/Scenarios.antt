@@ -22,7 +22,8 @@ use Rattle.state.specs.Blocks.{pointsTo}
 use Rattle.state.specs.Layout.{Layout, layoutOf}
 use Rattle.state.specs.Memory.{World, blockAt}
 use Rattle.state.specs.Calls.{Call, message, hold, return, Outcome, answered, fresh, turns}
-use Rattle.state.specs.Pasts.{roundEnds, times, turnsDone}
+use Rattle.state.specs.Turns.{clearAt}
+use Rattle.state.specs.Pasts.{marking, roundEnds, times, turnsDone}
 
 -- A scenario: what the rules compute, and what should come out.
 pub record Scenario : Type 0 where
@@ -106,6 +107,17 @@ abbrev pub pointsAt : Option Block → ℕ → ℕ
 pointsAt None c = 0
 pointsAt (Some k) c = truth (pointsTo k c)
 
+-- A register points to slot 6 in area 3, which points to slot 1 in area 2, which points back to slot 5 in area 3.
+abbrev pub thereAndBack : World
+thereAndBack =
+    called (make 0 3 1 ∷ make 1 2 1 ∷ make 2 3 1 ∷ write 1 0 0 ∷ write 2 0 1 ∷ zero-register 0 ∷ zero-register 1 ∷ []) start
+
+-- Area 2 has begun a second round when area 3 ends its first, so that area 1 begins to recover; area 3 begins its second round, and then
+-- area 2 scans slot 1.
+abbrev pub overtaken : World
+overtaken =
+    called (replicate 8 (turn 3) ++ (turn 2 ∷ turn 3 ∷ turn 3 ∷ turn 2 ∷ [])) (round 2 (called (zero-register 1 ∷ []) crossed))
+
 abbrev pub planRefusal : Result (List Area) plan-refusal.Refusal → List ℕ
 planRefusal (Ok areas) = []
 planRefusal (Err e) = plan-refusals.refusalRecord e ∷ []
@@ -128,6 +140,10 @@ scenarios =
       computed = alternating 4 (called (hold 1 ∷ zero-register 0 ∷ zero-register 1 ∷ []) crossed);
       expected = 1 ∷ 1 ∷ 1 ∷ 1 ∷ 0 ∷ 1 ∷ 0 ∷ 1 ∷ 0 ∷ 1 ∷ 0 ∷ 1 ∷ 0 ∷ 1 ∷ 0 ∷ 1 ∷ [];
     }
+    -- a chain of pointers that leaves area 3 and comes back stands: area 1 does not recover while a mark of the chain waits
+    ∷ record { computed = alternating 4 thereAndBack; expected = replicate 16 1 }
+    -- area 1 recovers, the mark of slot 5 is clear, and a round that began before sends it no more
+    ∷ record { computed = truth (marking overtaken 1) ∷ truth (clearAt (overtaken .memory) 5 2 2) ∷ truth (overtaken .waits 5 2 2) ∷ []; expected = 0 ∷ 1 ∷ 0 ∷ [] }
     -- a lowest area with no slots; a turn of area 1; a read of word 2 of a block of two; a fifth block in area 2
     ∷ record { computed = planRefusal (readPlan (2 ∷ 2 ∷ 0 ∷ 0 ∷ 0 ∷ 0 ∷ 1 ∷ 0 ∷ 0 ∷ 0 ∷ 0 ∷ 0 ∷ [])); expected = 2 ∷ [] }
     ∷ record { computed = refusal (turn 1) start ∷ refusal (read 2 0 2) crossed ∷ refusal (make 0 2 0) (called (replicate 4 (make 0 2 0)) start) ∷ []; expected = 8 ∷ 11 ∷ 12 ∷ [] }

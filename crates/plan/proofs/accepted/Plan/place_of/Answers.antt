@@ -12,8 +12,8 @@ pub returns-in-Break-k : need.returns-in-Break-k
 returns-in-Break-k c =
     record {
       answer =
-        c .from-residual .ensures
-        ∙ sym (cond-false _ _ _ (subst (λ n. numbered n (c .args .i) ≡ false) (c .len .ensures ∙ places-count (c .args .self .now)) (c .in-Break-k .ensures tt)));
+          c .from-residual .ensures
+          ∙ sym (cond-false _ _ _ (subst (λ n. numbered n (c .args .i) ≡ false) (c .len .ensures ∙ places-count (c .args .self .now)) (c .in-Break-k .ensures tt)));
       few = cases-from-none _ _ (c .from-residual .ensures);
     }
 
