@@ -4,7 +4,8 @@ use mathlib.Core.Bool.{Bool, true, false, cond}
 use mathlib.Core.List.{List, [], _∷_, _++_}
 use Prim.Native.Nat.{ℕ, zero, suc, _+_}
 use lib.ListN.{replicate}
-use Rattle.std.specs.Options.{isSome}
+use lib.Chars.{codes}
+use Rattle.std.specs.Options.{isSome, valueOr}
 use Rattle.std.specs.declared.option.Option.{Option}
 use Rattle.std.specs.declared.option.Option.the-variants.{Some, None}
 use Rattle.std.specs.declared.result.Result.{Result}
@@ -14,6 +15,7 @@ use Rattle.plan.specs.declared.area.Area.{Area}
 use Rattle.plan.specs.Reading.{areasOf, readPlan}
 use Rattle.plan.specs.Refusals as plan-refusals
 use Rattle.plan.specs.declared.refusal.Refusal as plan-refusal
+use Rattle.listing.specs.Listing.{listing}
 use Rattle.post.specs.Marks.{none}
 use Rattle.state.specs.declared.block.Block.{Block}
 use Rattle.state.specs.declared.refusal.Refusal.{Refusal}
@@ -23,6 +25,7 @@ use Rattle.state.specs.Layout.{Layout, layoutOf}
 use Rattle.state.specs.Memory.{World, blockAt}
 use Rattle.state.specs.Calls.{Call, message, hold, return, Outcome, answered, fresh, turns}
 use Rattle.state.specs.Turns.{clearAt}
+use Rattle.state.specs.Runs.{Tally, runs, rowsOf}
 use Rattle.state.specs.Pasts.{marking, roundEnds, times, turnsDone}
 
 -- A scenario: what the rules compute, and what should come out.
@@ -120,7 +123,16 @@ overtaken =
 
 abbrev pub planRefusal : Result (List Area) plan-refusal.Refusal → List ℕ
 planRefusal (Ok areas) = []
-planRefusal (Err e) = plan-refusals.refusalRecord e ∷ []
+planRefusal (Err e) = valueOr (plan-refusals.refusalNumber e) 0 ∷ plan-refusals.refusalRecord e ∷ []
+
+-- How many messages of a run were accepted and refused, and the listing after it; or the number of the refusal of the whole run.
+abbrev pub tallied : Result Tally Refusal → List ℕ
+tallied (Ok t) = t .accepted ∷ t .refused ∷ listing (rowsOf sample (t .world .memory))
+tallied (Err e) = refusalNumber e ∷ []
+
+-- Two blocks are made and one is written into the other, and three bytes follow that are no message.
+abbrev pub runBytes : List ℕ
+runBytes = 1 ∷ 77 ∷ 0 ∷ 2 ∷ 2 ∷ 0 ∷ 0 ∷ 0 ∷ 1 ∷ 77 ∷ 1 ∷ 3 ∷ 1 ∷ 0 ∷ 0 ∷ 0 ∷ 1 ∷ 87 ∷ 0 ∷ 0 ∷ 1 ∷ 0 ∷ 0 ∷ 0 ∷ 2 ∷ 84 ∷ 0 ∷ []
 
 abbrev pub scenarios : List Scenario
 scenarios =
@@ -145,8 +157,14 @@ scenarios =
     -- area 1 recovers, the mark of slot 5 is clear, and a round that began before sends it no more
     ∷ record { computed = truth (marking overtaken 1) ∷ truth (clearAt (overtaken .memory) 5 2 2) ∷ truth (overtaken .waits 5 2 2) ∷ []; expected = 0 ∷ 1 ∷ 0 ∷ [] }
     -- a lowest area with no slots; a turn of area 1; a read of word 2 of a block of two; a fifth block in area 2
-    ∷ record { computed = planRefusal (readPlan (2 ∷ 2 ∷ 0 ∷ 0 ∷ 0 ∷ 0 ∷ 1 ∷ 0 ∷ 0 ∷ 0 ∷ 0 ∷ 0 ∷ [])); expected = 2 ∷ [] }
+    ∷ record { computed = planRefusal (readPlan (2 ∷ 2 ∷ 0 ∷ 0 ∷ 0 ∷ 0 ∷ 1 ∷ 0 ∷ 0 ∷ 0 ∷ 0 ∷ 0 ∷ [])); expected = 4 ∷ 2 ∷ [] }
     ∷ record { computed = refusal (turn 1) start ∷ refusal (read 2 0 2) crossed ∷ refusal (make 0 2 0) (called (replicate 4 (make 0 2 0)) start) ∷ []; expected = 8 ∷ 11 ∷ 12 ∷ [] }
+    -- a run with a last part that is too short, and its listing; the same with a post of seven blocks
+    ∷ record {
+      computed = tallied (runs sample 8 runBytes start);
+      expected = 3 ∷ 1 ∷ codes "area 1 level 2 used 2 free 6\narea 2 level 1 used 1 free 3\narea 3 level 1 used 1 free 3\n";
+    }
+    ∷ record { computed = tallied (runs sample 7 runBytes start); expected = 5 ∷ [] }
     ∷ []
 
 abbrev pub Scenarios-come-out : Type 0
