@@ -131,11 +131,18 @@ module _ (areas : List Area) (plan : isPlan areas ≡ true) where
       ∙ ap (λ ws. (topPlace ∷ inner) ++ ws) (along-end areas below (topLevel areas) 0 (length areas) (areaAt areas 1 .next) (0 + areaAt areas 1 .slots + slotsIn areas inner) ended)
       ∙ append-nil (topPlace ∷ inner)
 
+  top-at : placeOf areas 1 ≡ topPlace
+  top-at =
+      let inner = walkFrom areas (topLevel areas - 1) 1 (areaAt areas 1 .child) (0 + areaAt areas 1 .slots) in
+      place-alone areas plan 1 (top-numbered areas plan) topPlace (subst (λ ws. Has ws topPlace) (sym top-first) (has-getD (topPlace ∷ inner) 0 topPlace (omega arith))) refl
+
   pub top-place : (placeOf areas 1 .before ≡ 0) × (placeOf areas 1 .after ≡ slotCount areas)
   top-place =
       let inner = walkFrom areas (topLevel areas - 1) 1 (areaAt areas 1 .child) (0 + areaAt areas 1 .slots) in
-      let is : placeOf areas 1 ≡ topPlace = place-alone areas plan 1 (top-numbered areas plan) topPlace (subst (λ ws. Has ws topPlace) (sym top-first) (has-getD (topPlace ∷ inner) 0 topPlace (omega arith))) refl in
-      (ap (λ q. q .before) is, omega (arith, ap (λ q. q .after) is, ap (slotsIn areas) top-first, slots-cons areas topPlace inner))
+      (ap (λ q. q .before) top-at, omega (arith, ap (λ q. q .after) top-at, ap (slotsIn areas) top-first, slots-cons areas topPlace inner))
+
+  pub top-parent : parentOf areas 1 ≡ 0
+  top-parent = ap (λ q. q .parent) top-at
 
   pub top-only : (x : ℕ) → numbered (length areas) x ≡ true → areaAt areas x .level ≡ topLevel areas → x ≡ 1
   top-only x t e =

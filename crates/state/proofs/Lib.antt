@@ -1,3 +1,4 @@
 pub mod Scenarios
 pub mod Numbered
 pub mod Drains
+pub mod Lawful

@@ -13,3 +13,4 @@ pub mod Pasts
 pub mod Promises
 pub mod Drains
 pub mod Scenarios
+pub mod Lawful

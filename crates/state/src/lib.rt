@@ -13,6 +13,7 @@ pub use block::Colour;
 pub use block::Entry;
 pub use block::Hold;
 pub use claims::drained_in_any_order;
+pub use claims::layouts_are_lawful;
 pub use claims::scenarios_come_out;
 pub use collector::Collector;
 pub use collector::Phase;
