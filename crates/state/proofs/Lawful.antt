@@ -43,18 +43,18 @@ module _ (areas : List Area) (plan : isPlan areas ≡ true) where
   same-parent : (x : ℕ) → tabled x ≡ parentOf areas x
   same-parent x =
       ⊎-elim
-        (λ (t : numbered (length areas) x ≡ true). ap (λ (q : Place). q .parent) (place-read areas x nowhere t))
-        (λ (f : numbered (length areas) x ≡ false).
-          ⊎-elim
-            (λ (z : x ≡ 0).
-              let at-one : tabled 0 ≡ 0 = ap (λ (q : Place). q .parent) (place-read areas 1 nowhere one) ∙ top-parent areas plan in
-              ap tabled z ∙ at-one ∙ sym (no-parent areas x f))
-            (λ (nz : x ≡ 0 → ⊥).
-              let long : length (placesOf areas) ≡ length areas = length-map-counting (placeOf areas) 1 (length areas) in
-              let out : length areas < x = outside x f nz in
-              ap (λ (q : Place). q .parent) (getD-past (placesOf areas) (place x) nowhere (omega (arith, long, out))) ∙ sym (no-parent areas x f))
-            (cases-eq x 0))
-        (cases-bool (numbered (length areas) x))
+      (λ (t : numbered (length areas) x ≡ true). ap (λ (q : Place). q .parent) (place-read areas x nowhere t))
+      (λ (f : numbered (length areas) x ≡ false).
+      ⊎-elim
+      (λ (z : x ≡ 0).
+      let at-one : tabled 0 ≡ 0 = ap (λ (q : Place). q .parent) (place-read areas 1 nowhere one) ∙ top-parent areas plan in
+      ap tabled z ∙ at-one ∙ sym (no-parent areas x f))
+      (λ (nz : x ≡ 0 → ⊥).
+      let long : length (placesOf areas) ≡ length areas = length-map-counting (placeOf areas) 1 (length areas) in
+      let out : length areas < x = outside x f nz in
+      ap (λ (q : Place). q .parent) (getD-past (placesOf areas) (place x) nowhere (omega (arith, long, out))) ∙ sym (no-parent areas x f))
+      (cases-eq x 0))
+      (cases-bool (numbered (length areas) x))
     where
       outside : (x : ℕ) → numbered (length areas) x ≡ false → (x ≡ 0 → ⊥) → length areas < x
       outside x f nz =
@@ -139,10 +139,10 @@ module _ (areas : List Area) (plan : isPlan areas ≡ true) where
   level-lowest : (p b l : ℕ) → numbered (slotCount L) p ≡ true → numbered (slotCount L) b ≡ true → 1 ≤ l → Together L l (home L p) (home L b) → levelOf L p b ≤ l
   level-lowest p b l np nb i e =
       ⊎-elim
-        (λ (m : l < levelOf L p b).
-          absurd (laws .apart-below (homeOf areas p) (homeOf areas b) l (at-home p np .0) (at-home b nb .0) i (subst (λ n. l < n) (same-level p b) m) (over-from l _ _ e)))
-        (λ (m : levelOf L p b ≤ l). m)
-        (cases-lt l (levelOf L p b))
+      (λ (m : l < levelOf L p b).
+      absurd (laws .apart-below (homeOf areas p) (homeOf areas b) l (at-home p np .0) (at-home b nb .0) i (subst (λ n. l < n) (same-level p b) m) (over-from l _ _ e)))
+      (λ (m : levelOf L p b ≤ l). m)
+      (cases-lt l (levelOf L p b))
 
   lawful : Lawful L
   lawful = record {
@@ -152,20 +152,22 @@ module _ (areas : List Area) (plan : isPlan areas ≡ true) where
     only-home = only-home;
     above-area = λ a l low i h. let o = laws .over a l low i h in (rw (same-above a l) (o .0), rw (same-above a l) (o .1));
     above-within = λ x b t n.
-      let c = laws .contains x b t (slot-numbered b n) in
-      ( (λ w. same-above _ _ ∙ c .0 (within-parts x t b w))
-      , (λ e. let q = c .1 (sym (same-above (homeOf areas b) (areaAt areas x .level)) ∙ e) in within-from x t b (q .0) (q .1)) );
+        let c = laws .contains x b t (slot-numbered b n) in (
+          (λ w. same-above _ _ ∙ c .0 (within-parts x t b w)),
+          (λ e. let q = c .1 (sym (same-above (homeOf areas b) (areaAt areas x .level)) ∙ e) in within-from x t b (q .0) (q .1)),
+        );
     above-one = λ a. same-above a 1 ∙ climb-none areas a;
     nested = λ a b l m i h e.
-      let k : l + (m - l) ≡ m = omega arith in
-      together-from m a b (subst (λ n. areaOver areas n a ≡ areaOver areas n b) k (nested a b l (m - l) i (over-from l a b e)));
+        let k : l + (m - l) ≡ m = omega arith in
+        together-from m a b (subst (λ n. areaOver areas n a ≡ areaOver areas n b) k (nested a b l (m - l) i (over-from l a b e)));
     top-together = λ a b la lb. together-from (topLevel areas) a b (laws .top a la ∙ sym (laws .top b lb));
     level-within = λ p b np nb.
-      let c = laws .common (homeOf areas p) (homeOf areas b) (at-home p np .0) (at-home b nb .0) in
-      let e = sym (same-level p b) in
-      ( subst (λ n. 1 ≤ n) e (c .0)
-      , subst (λ n. n ≤ topLevel areas) e (c .1)
-      , subst (λ n. Together L n (homeOf areas p) (homeOf areas b)) e (together-from _ _ _ (c .2)) );
+        let c = laws .common (homeOf areas p) (homeOf areas b) (at-home p np .0) (at-home b nb .0) in
+        let e = sym (same-level p b) in (
+          subst (λ n. 1 ≤ n) e (c .0),
+          subst (λ n. n ≤ topLevel areas) e (c .1),
+          subst (λ n. Together L n (homeOf areas p) (homeOf areas b)) e (together-from _ _ _ (c .2)),
+        );
     level-lowest = level-lowest;
   }
 

@@ -1,0 +1,3 @@
+pub mod Used
+pub mod Freed
+pub mod Stand
