@@ -38,7 +38,7 @@ fn read_record(bytes: &[u8], count: u16, i: u16) -> Option<Area>
 }
 
 // The areas of `count` records, or a refusal that names the first record that is out of range.
-pub fn read_records(heap: Global, bytes: &[u8], count: u16) -> Result<Vec<Area>, Refusal>
+pub(crate) fn read_records(heap: Global, bytes: &[u8], count: u16) -> Result<Vec<Area>, Refusal>
     requires { ⌜ 6 * count ≤ length (now bytes) ⌝ }
     ensures { λ r. ⌜ Answers (λ v. vec-items v) (readRecords (now (bytes .entry)) count) r ⌝ }
 {
@@ -53,7 +53,7 @@ pub fn read_records(heap: Global, bytes: &[u8], count: u16) -> Result<Vec<Area>,
 }
 
 // The first area whose own slots are wrong.
-pub fn first_wrong_slots(areas: &[Area]) -> Option<u16>
+pub(crate) fn first_wrong_slots(areas: &[Area]) -> Option<u16>
     requires { ⌜ length (now areas) ≤ 64 ⌝ }
     ensures { λ r. ⌜ r ≡ firstWrong (λ i. slotsRight (areaAt (now (areas .entry)) i)) 1 (length (now (areas .entry))) ⌝ }
 {

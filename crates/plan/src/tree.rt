@@ -35,7 +35,7 @@ fn own_slots(area: Area) -> u32
 
 // Walks the chain of areas of one level from `first` on: an area, all that stands below its child, then its next.
 // It stops as soon as it has met more areas than there are, since then it has met one twice.
-pub fn walk(
+pub(crate) fn walk(
     areas: &[Area],
     level: u8,
     parent: u16,
@@ -140,7 +140,7 @@ fn only_place(places: &[Place], area: u16) -> Option<Place>
 }
 
 // The places in the order of the areas' numbers, each area having just one.
-pub fn places_by_number(heap: Global, places: &[Place], count: u16) -> Result<Vec<Place>, Refusal>
+pub(crate) fn places_by_number(heap: Global, places: &[Place], count: u16) -> Result<Vec<Place>, Refusal>
     ensures { λ r. ⌜ Answers (λ v. vec-items v) (cond (every (λ i. isSome (onlyPlace (now (places .entry)) i)) (counting 1 count)) (Ok (map (placeIn (now (places .entry))) (counting 1 count))) (Err NotATree)) r ⌝ }
 {
     let mut numbered = Vec::new(heap);
@@ -154,7 +154,7 @@ pub fn places_by_number(heap: Global, places: &[Place], count: u16) -> Result<Ve
 }
 
 // The walk of a whole plan and the number of its slots; refused where it meets too many areas, or one at a level not its own.
-pub fn walk_tree(heap: Global, areas: &[Area]) -> Result<(Vec<Place>, u32), Refusal>
+pub(crate) fn walk_tree(heap: Global, areas: &[Area]) -> Result<(Vec<Place>, u32), Refusal>
     requires some { ⌜ 1 ≤ length (now areas) ⌝ }
     requires few { ⌜ length (now areas) ≤ 64 ⌝ }
     ensures { λ r. ⌜ Answers (λ w. (vec-items (w .0), w .1)) (orderOf (now (areas .entry))) r ⌝ }
@@ -185,7 +185,7 @@ fn push_home(homes: &mut Vec<u16>, area: u16, slots: u16) -> Result<(), AllocErr
 }
 
 // The lowest area of each slot, slots in the order of the walk.
-pub fn homes_of(heap: Global, areas: &[Area], order: &[Place]) -> Result<Vec<u16>, AllocError>
+pub(crate) fn homes_of(heap: Global, areas: &[Area], order: &[Place]) -> Result<Vec<u16>, AllocError>
     requires { ⌜ All (λ p. numbered (length (now areas)) (p .area) ≡ true) (now order) ⌝ }
     ensures { λ r. ⌜ made r (λ v. vec-items v ≡ homesIn (now (areas .entry)) (now (order .entry))) ⌝ }
 {
