@@ -140,7 +140,11 @@ fn only_place(places: &[Place], area: u16) -> Option<Place>
 }
 
 // The places in the order of the areas' numbers, each area having just one.
-pub(crate) fn places_by_number(heap: Global, places: &[Place], count: u16) -> Result<Vec<Place>, Refusal>
+pub(crate) fn places_by_number(
+    heap: Global,
+    places: &[Place],
+    count: u16,
+) -> Result<Vec<Place>, Refusal>
     ensures { λ r. ⌜ Answers (λ v. vec-items v) (cond (every (λ i. isSome (onlyPlace (now (places .entry)) i)) (counting 1 count)) (Ok (map (placeIn (now (places .entry))) (counting 1 count))) (Err NotATree)) r ⌝ }
 {
     let mut numbered = Vec::new(heap);
@@ -185,7 +189,11 @@ fn push_home(homes: &mut Vec<u16>, area: u16, slots: u16) -> Result<(), AllocErr
 }
 
 // The lowest area of each slot, slots in the order of the walk.
-pub(crate) fn homes_of(heap: Global, areas: &[Area], order: &[Place]) -> Result<Vec<u16>, AllocError>
+pub(crate) fn homes_of(
+    heap: Global,
+    areas: &[Area],
+    order: &[Place],
+) -> Result<Vec<u16>, AllocError>
     requires { ⌜ All (λ p. numbered (length (now areas)) (p .area) ≡ true) (now order) ⌝ }
     ensures { λ r. ⌜ made r (λ v. vec-items v ≡ homesIn (now (areas .entry)) (now (order .entry))) ⌝ }
 {
