@@ -53,7 +53,7 @@ fn letter_of(mark: Mark) -> u16
     requires { ⌜ markIn 1024 mark ≡ true ⌝ }
     ensures { λ r. ⌜ r ≡ letterFor mark ⌝ }
 {
-    let pair = (2 * mark.entry + mark.level - 6).min(5);
+    let pair = mark.place().min(5);
     6 * (mark.block - 1) + pair as u16 + 1
 }
 

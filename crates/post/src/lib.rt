@@ -15,6 +15,7 @@ ghost use mathlib.Core.Bool.{Bool, true};
 ghost use Prim.Native.Nat.{ℕ, _*_, _≤_};
 ghost use Rattle.std.specs.Of.Vec.{vec-items, vec-len};
 ghost use Rattle.post.specs.Marks.{refusalNumber, isMark, markIn, sent, sendAnswer, inside, outside, either, marksOf, Taken, AnyAt};
+ghost use Rattle.post.specs.Table.{place};
 ghost use Rattle.post.specs.Letters.{Tidy};
 ghost use Rattle.post.specs.Orders.{Any-order, Stays-in};
 
@@ -36,6 +37,14 @@ impl Mark {
             && 2 <= self.entry
             && self.entry <= self.level
             && self.level <= 4
+    }
+
+    // The place of its pair of levels among the bits of a byte: 0, 1, 2, 3, 4 or 6.
+    pub(crate) fn place(self) -> u8
+        requires { ⌜ (2 ≤ self .entry) × (self .entry ≤ self .level) × (self .level ≤ 4) ⌝ }
+        ensures { λ r. ⌜ r ≡ place (self .entry) (self .level) ⌝ }
+    {
+        2 * self.entry + self.level - 6
     }
 }
 

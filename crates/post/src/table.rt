@@ -20,14 +20,14 @@ pub(crate) fn marked(table: &[u8], mark: Mark) -> bool
     if !mark.is_of(table.len()) {
         return false;
     }
-    table[mark.block as usize - 1] >> (2 * mark.entry + mark.level - 6) & 1 == 1
+    table[mark.block as usize - 1] >> mark.place() & 1 == 1
 }
 
 fn put(table: &mut [u8], mark: Mark)
     requires { ⌜ markIn (length (now table)) mark ≡ true ⌝ }
     ensures { λ _. ⌜ kept (now (table .exit)) ≡ added mark (kept (now (table .entry))) ⌝ }
 {
-    table[mark.block as usize - 1] |= 1 << (2 * mark.entry + mark.level - 6);
+    table[mark.block as usize - 1] |= 1 << mark.place();
 }
 
 fn clear(table: &mut [u8], mark: Mark)
@@ -35,7 +35,7 @@ fn clear(table: &mut [u8], mark: Mark)
     requires kept { ⌜ holds (kept (now table)) mark ≡ true ⌝ }
     ensures { λ _. ⌜ kept (now (table .exit)) ≡ without mark (kept (now (table .entry))) ⌝ }
 {
-    table[mark.block as usize - 1] ^= 1 << (2 * mark.entry + mark.level - 6);
+    table[mark.block as usize - 1] ^= 1 << mark.place();
 }
 
 // The first mark of one block; none at once where its byte is 0.

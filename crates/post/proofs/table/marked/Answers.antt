@@ -6,4 +6,4 @@ pub returns-then-not-is-of : need.returns-then-not-is-of
 returns-then-not-is-of c = sym (kept-no-mark (c .args .table .now) (c .args .mark) (sym (c .if-not-is-of .ensures tt)))
 
 pub returns : need.returns
-returns c = kept-mark (c .args .table .now) (c .args .mark) (sym (c .if-not-is-of .ensures tt))
+returns c = rw (c .place .ensures) (kept-mark (c .args .table .now) (c .args .mark) (sym (c .if-not-is-of .ensures tt)))
