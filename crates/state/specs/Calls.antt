@@ -28,7 +28,7 @@ use Rattle.state.specs.Registers.{isRegister, zeroRegisters, held}
 use Rattle.state.specs.Holds.{heldBlock, unheldBlock}
 use Rattle.state.specs.Layout.{Layout, top, slotCount, lowest, firstOf, lastOf, levelOf}
 use Rattle.state.specs.Blocks.{newBlock, wordAt, withWord, shade, withEntry}
-use Rattle.state.specs.Memory.{Memory, World, blockAt, linkAt, collectorAt, withSlots, withRegisters, withCollector, onBlock}
+use Rattle.state.specs.Memory.{Memory, World, freeSlot, newCollector, blockAt, linkAt, collectorAt, withSlots, withRegister, withCollector, onBlock}
 use Rattle.state.specs.Messages.{decoded}
 use Rattle.state.specs.Turns.{onMemory, withFree, clearAt, turned}
 
@@ -54,7 +54,7 @@ abbrev pub blockMade : ℕ → ℕ → ℕ → Memory → Memory
 blockMade p q n s =
     let b = collectorAt s q .free in
     withCollector q (withFree (linkAt s b) (collectorAt s q))
-    (withRegisters (set (s .registers) p (Pointer b))
+    (withRegister p (Pointer b)
     (withSlots (set (s .slots) (place b) (record { block = Some (newBlock n); next = linkAt s b })) s))
 
 abbrev pub makes : Layout → ℕ → ℕ → ℕ → World → Outcome
@@ -90,8 +90,8 @@ pointerRead plan b c w =
     cond (leb 2 (levelOf plan b c)) (marksSent plan c (levelOf plan b c) v) v
 
 abbrev pub wordRead : Layout → ℕ → ℕ → Word → World → World
-wordRead plan b p (Number n) w = onMemory (λ s. withRegisters (set (s .registers) p (Number n)) s) w
-wordRead plan b p (Pointer c) w = pointerRead plan b c (onMemory (λ s. withRegisters (set (s .registers) p (Pointer c)) s) w)
+wordRead plan b p (Number n) w = onMemory (withRegister p (Number n)) w
+wordRead plan b p (Pointer c) w = pointerRead plan b c (onMemory (withRegister p (Pointer c)) w)
 
 abbrev pub sizeOf : Option Block → ℕ
 sizeOf None = 0
@@ -122,11 +122,11 @@ reads plan p q i w = check (isRegister p && isRegister q) NoRegister w (readsFro
 -- Numbers, copies and turns
 
 abbrev pub numbers : ℕ → ℕ → World → Outcome
-numbers p n w = check (isRegister p) NoRegister w (accepted (onMemory (λ s. withRegisters (set (s .registers) p (Number n)) s) w))
+numbers p n w = check (isRegister p) NoRegister w (accepted (onMemory (withRegister p (Number n)) w))
 
 abbrev pub copies : ℕ → ℕ → World → Outcome
 copies p q w =
-    check (isRegister p && isRegister q) NoRegister w (accepted (onMemory (λ s. withRegisters (set (s .registers) p (held (s .registers) q)) s) w))
+    check (isRegister p && isRegister q) NoRegister w (accepted (onMemory (λ s. withRegister p (held (s .registers) q) s) w))
 
 abbrev pub turns : Layout → ℕ → World → Outcome
 turns plan a w = check (lowest plan a) NotLowest w (accepted (turned plan a w))
@@ -188,9 +188,9 @@ answered plan size (return b) w = givesBack b w
 -- each level, and every area above is marking.
 abbrev pub fresh : Layout → Memory
 fresh plan = record {
-  slots = mapFrom (λ b a. record { block = None; next = cond (ltb b (lastOf plan a)) (b + 1) 0 }) 1 (plan .homes);
+  slots = mapFrom (λ b a. freeSlot (cond (ltb b (lastOf plan a)) (b + 1) 0)) 1 (plan .homes);
   registers = zeroRegisters;
-  collectors = mapFrom (λ a _. record { stage = Resting; status = replicate 3 Unstarted; sends = replicate 3 false; free = cond (lowest plan a) (firstOf plan a) 0 }) 1 (plan .areas);
+  collectors = mapFrom (λ a _. newCollector (cond (lowest plan a) (firstOf plan a) 0)) 1 (plan .areas);
   phases = mapFrom (λ _ _. Marking) 1 (plan .areas);
 }
 

@@ -1,18 +1,17 @@
 -- A drain, one mark after another.
 use mathlib.Core.Path.{_≡_}
-use mathlib.Core.Bool.{Bool, true, cond, _&&_}
+use mathlib.Core.Bool.{cond, _&&_}
 use mathlib.Core.List.{List, [], _∷_}
 use Prim.Native.Nat.{ℕ}
 use lib.Dec.{eqb, leb}
-use Rattle.plan.specs.declared.area.Area.{Area}
-use Rattle.plan.specs.Plans.{isPlan}
 use Rattle.post.specs.declared.Mark.{Mark}
-use Rattle.post.specs.Marks.{Waits, isMark}
+use Rattle.post.specs.Marks.{Waits}
 use Rattle.post.specs.Orders.{Whole}
-use Rattle.state.specs.Layout.{Layout, layoutOf, top, lowest, firstOf, lastOf}
+use Rattle.state.specs.Layout.{Layout, top, firstOf, lastOf}
 use Rattle.state.specs.Blocks.{withMarks}
 use Rattle.state.specs.Memory.{Memory, World, collectorAt, withCollector, onBlock}
 use Rattle.state.specs.Turns.{markingAbove, onStatus, restarted, clearAt, drained}
+use Rattle.state.specs.Pasts.{MarksOf}
 
 -- Area a takes one mark: it is set if its level is at most the top, its block and entry are there and it is clear, and then, where the area
 -- above at its level is marking, the status there is 0; else it is dropped.
@@ -30,6 +29,6 @@ marksTaken plan a (k ∷ ks) s = marksTaken plan a ks (markTaken plan a k s)
 -- Whichever waiting mark each take picks, taking and handling marks one by one until none waits in the area ends in the drained world.
 abbrev pub Drained-in-any-order : Type 0
 Drained-in-any-order =
-    (plan : Layout) (a size : ℕ) (w : World) → ((b m l : ℕ) → w .waits b m l ≡ true → isMark size b m l ≡ true) →
+    (plan : Layout) (a size : ℕ) (w : World) → MarksOf size (w .waits) →
     (marks : List Mark) (v : Waits) → Whole (firstOf plan a) (lastOf plan a) (w .waits) marks v →
     (marksTaken plan a marks (w .memory) ≡ drained plan a w .memory) × (v ≡ drained plan a w .waits)

@@ -39,6 +39,10 @@ firstOf plan a = getD (plan .places) (place a) nowhere .before + 1
 abbrev pub lastOf : Layout → ℕ → ℕ
 lastOf plan a = getD (plan .places) (place a) nowhere .after
 
+-- How many slots an area has.
+abbrev pub areaSize : Layout → ℕ → ℕ
+areaSize plan a = lastOf plan a + 1 - firstOf plan a
+
 -- Slot b lies in area a.
 abbrev pub within : Layout → ℕ → ℕ → Bool
 within plan a b = leb (firstOf plan a) b && leb b (lastOf plan a)

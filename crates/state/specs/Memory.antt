@@ -3,7 +3,7 @@ use mathlib.Core.Bool.{Bool, true, false, cond, _&&_, _||_}
 use mathlib.Core.List.{List}
 use Prim.Native.Nat.{ℕ, _+_}
 use lib.Dec.{eqb, leb, ltb}
-use lib.ListN.{getD, set, length}
+use lib.ListN.{getD, set, length, replicate}
 use Rattle.std.specs.Options.{isSome}
 use Rattle.std.specs.declared.option.Option.{Option}
 use Rattle.std.specs.declared.option.Option.the-variants.{Some, None}
@@ -35,19 +35,27 @@ pub record World : Type 0 where
   pub memory : Memory
   pub waits : Waits
 
+-- A free slot, with the next of its chain.
+abbrev pub freeSlot : ℕ → Slot
+freeSlot n = record { block = None; next = n }
+
+-- A collector at rest, with status 0 at each level and the first free slot of its area.
+abbrev pub newCollector : ℕ → Collector
+newCollector b = record { stage = Resting; status = replicate 3 Unstarted; sends = replicate 3 false; free = b }
+
 -- Reading
 
 abbrev pub blockIn : List Slot → ℕ → Option Block
-blockIn slots b = getD slots (place b) (record { block = None; next = 0 }) .block
+blockIn slots b = getD slots (place b) (freeSlot 0) .block
 
 abbrev pub blockAt : Memory → ℕ → Option Block
 blockAt s b = blockIn (s .slots) b
 
 abbrev pub linkAt : Memory → ℕ → ℕ
-linkAt s b = getD (s .slots) (place b) (record { block = None; next = 0 }) .next
+linkAt s b = getD (s .slots) (place b) (freeSlot 0) .next
 
 abbrev pub collectorAt : Memory → ℕ → Collector
-collectorAt s a = getD (s .collectors) (place a) (record { stage = Resting; status = lib.ListN.replicate 3 Unstarted; sends = lib.ListN.replicate 3 false; free = 0 })
+collectorAt s a = getD (s .collectors) (place a) (newCollector 0)
 
 abbrev pub phaseAt : Memory → ℕ → Phase
 phaseAt s a = getD (s .phases) (place a) Marking
@@ -73,6 +81,9 @@ withSlots xs s = record { slots = xs; registers = s .registers; collectors = s .
 
 abbrev pub withRegisters : List Word → Memory → Memory
 withRegisters rs s = record { slots = s .slots; registers = rs; collectors = s .collectors; phases = s .phases }
+
+abbrev pub withRegister : ℕ → Word → Memory → Memory
+withRegister p v s = withRegisters (set (s .registers) p v) s
 
 abbrev pub withCollectors : List Collector → Memory → Memory
 withCollectors cs s = record { slots = s .slots; registers = s .registers; collectors = cs; phases = s .phases }

@@ -8,7 +8,7 @@ use Rattle.chain.specs.Chain.{numbered}
 use Rattle.plan.specs.declared.area.Area.{Area}
 use Rattle.plan.specs.Plans.{isPlan}
 use Rattle.plan.specs.Walk.{areaAt}
-use Rattle.state.specs.Layout.{Layout, layoutOf, top, slotCount, lowest, firstOf, lastOf}
+use Rattle.state.specs.Layout.{Layout, layoutOf, top, slotCount, lowest, areaSize}
 use Rattle.state.specs.Memory.{World}
 use Rattle.state.specs.Calls.{Call, answered}
 use Rattle.state.specs.Pasts.{Past, Reach, Recovers, Free, turnsDone, marking, roundEnds, markingEnds, recoveryEnds, times, turnsOf, Laps}
@@ -38,17 +38,13 @@ Turns-alone-recover-all-garbage =
     (last : List ℕ) → ((a : ℕ) → lowest (layoutOf areas) a ≡ true → 2 ≤ times (layoutOf areas) (roundEnds a) last v) →
     (b : ℕ) → numbered (slotCount (layoutOf areas)) b ≡ true → (Reach (w .memory) b → ⊥) → Free (turnsDone (layoutOf areas) last v .memory) b
 
--- How many slots an area has.
-abbrev pub sizeOf : Layout → ℕ → ℕ
-sizeOf plan x = lastOf plan x + 1 - firstOf plan x
-
 -- How soon, under turns alone, wherever one begins to count after any past:
 -- an area of n slots that has had 2n + H + 2 accepted turns has ended a round;
 abbrev pub Rounds-end-soon : Type 0
 Rounds-end-soon =
     (areas : List Area) → isPlan areas ≡ true → (size : ℕ) (w : World) → Past (layoutOf areas) size w →
     (a : ℕ) → lowest (layoutOf areas) a ≡ true →
-    (turns : List ℕ) → 2 * sizeOf (layoutOf areas) a + top (layoutOf areas) + 2 ≤ turnsOf a turns →
+    (turns : List ℕ) → 2 * areaSize (layoutOf areas) a + top (layoutOf areas) + 2 ≤ turnsOf a turns →
     1 ≤ times (layoutOf areas) (roundEnds a) turns w
 
 -- an area at level L over n slots that is marking has ended that marking within 2n(L−1) + 2 laps;
@@ -56,7 +52,7 @@ abbrev pub Markings-end-soon : Type 0
 Markings-end-soon =
     (areas : List Area) → isPlan areas ≡ true → (size : ℕ) (w : World) → Past (layoutOf areas) size w →
     (x : ℕ) → numbered (length areas) x ≡ true → 2 ≤ areaAt areas x .level → marking w x ≡ true →
-    (turns : List ℕ) → Laps (layoutOf areas) (2 * sizeOf (layoutOf areas) x * (areaAt areas x .level - 1) + 2) turns w →
+    (turns : List ℕ) → Laps (layoutOf areas) (2 * areaSize (layoutOf areas) x * (areaAt areas x .level - 1) + 2) turns w →
     1 ≤ times (layoutOf areas) (markingEnds x) turns w
 
 -- and one that is recovering has ended that recovery within one lap.

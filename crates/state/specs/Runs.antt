@@ -14,7 +14,7 @@ use Rattle.plan.specs.Walk.{areaAt}
 use Rattle.state.specs.declared.slot.Slot.{Slot}
 use Rattle.state.specs.declared.refusal.Refusal.{Refusal}
 use Rattle.state.specs.declared.refusal.Refusal.the-variants.{PostUnfit}
-use Rattle.state.specs.Layout.{Layout, slotCount, within, firstOf, lastOf}
+use Rattle.state.specs.Layout.{Layout, slotCount, within, areaSize}
 use Rattle.state.specs.Memory.{Memory, World}
 use Rattle.state.specs.Messages.{decoded}
 use Rattle.state.specs.Calls.{Outcome, messageAnswered}
@@ -50,7 +50,7 @@ used plan s x = usedFrom plan x 1 (s .slots)
 
 -- The row of an area, and all rows in the order of the records.
 abbrev pub rowOf : Layout → Memory → ℕ → Row
-rowOf plan s x = record { area = x; level = areaAt (plan .areas) x .level; used = used plan s x; free = lastOf plan x + 1 - firstOf plan x - used plan s x }
+rowOf plan s x = record { area = x; level = areaAt (plan .areas) x .level; used = used plan s x; free = areaSize plan x - used plan s x }
 
 abbrev pub rowsOf : Layout → Memory → List Row
 rowsOf plan s = map (rowOf plan s) (counting 1 (length (plan .areas)))

@@ -23,7 +23,7 @@ use Rattle.state.specs.declared.collector.Phase.the-variants.{Marking, Recover
 use Rattle.state.specs.Tables.{mapFrom, someFrom, everyFrom}
 use Rattle.state.specs.Layout.{Layout, top, lowest, within, firstOf, lastOf, above, levelOf}
 use Rattle.state.specs.Blocks.{levelPlace, pointsTo, coloured, shade, isWhite, isGrey, hasEntry, marked, markIn, withMarks, withRecovered, enteredAt}
-use Rattle.state.specs.Memory.{Memory, World, blockAt, collectorAt, phaseAt, statusAt, sendsAt, isMarking, inRegister, withSlots, withCollectors, withCollector, withPhase, onBlock, onArea, atStage}
+use Rattle.state.specs.Memory.{Memory, World, freeSlot, blockAt, collectorAt, phaseAt, statusAt, sendsAt, isMarking, inRegister, withSlots, withCollectors, withCollector, withPhase, onBlock, onArea, atStage}
 
 -- The area over lowest area a at level l is marking; just the levels from 2 to the top have areas above.
 abbrev pub markingAbove : Layout → Memory → ℕ → ℕ → Bool
@@ -162,7 +162,7 @@ withFree b c = record { stage = c .stage; status = c .status; sends = c .sends; 
 -- A white block is recovered: its slot is put first in the area's free chain.
 abbrev pub blockRecovered : ℕ → ℕ → Memory → Memory
 blockRecovered a b s =
-    withCollector a (withFree b (collectorAt s a)) (withSlots (set (s .slots) (place b) (record { block = None; next = collectorAt s a .free })) s)
+    withCollector a (withFree b (collectorAt s a)) (withSlots (set (s .slots) (place b) (freeSlot (collectorAt s a .free))) s)
 
 abbrev pub slotSwept : ℕ → ℕ → Option Block → Memory → Memory
 slotSwept a b None s = s
