@@ -2,8 +2,6 @@
 ghost use Rattle.laws.specs.Steps.{Reachable-blocks-stand};
 
 /// Where the invariant holds, no call recovers a block that is reachable when the call comes.
-pub fn reachable_blocks_stand() -> u8
+pub fn reachable_blocks_stand()
     ensures { λ _. ⌜ Reachable-blocks-stand ⌝ }
-{
-    0
-}
+{}

@@ -4,22 +4,16 @@ ghost use Rattle.state.specs.Lawful.{Layouts-are-lawful};
 ghost use Rattle.state.specs.Scenarios.{Scenarios-come-out};
 
 /// The worked scenarios on the sample plan come out as they should.
-pub fn scenarios_come_out() -> u8
+pub fn scenarios_come_out()
     ensures { λ _. ⌜ Scenarios-come-out ⌝ }
-{
-    0
-}
+{}
 
 /// Marks taken one by one, in whatever order, until none waits in an area, leave the drained memory.
-pub fn drained_in_any_order() -> u8
+pub fn drained_in_any_order()
     ensures { λ _. ⌜ Drained-in-any-order ⌝ }
-{
-    0
-}
+{}
 
 /// The tables that the rules read of an accepted plan keep the plan's laws: homes, areas above, nesting, levels of pointers.
-pub fn layouts_are_lawful() -> u8
+pub fn layouts_are_lawful()
     ensures { λ _. ⌜ Layouts-are-lawful ⌝ }
-{
-    0
-}
+{}
