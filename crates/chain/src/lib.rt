@@ -1,6 +1,7 @@
 //! Chains of records in a lent table: each record has the number of the next.
 //!
 //! Records are numbered from 1, in the order of the table, and a link of 0 ends a chain.
+#![tactic(auto)]
 
 ghost use Rattle.std.specs.Prelude.{◌≡◌, ℕ, ◌<◌, true, false, map, length, IfSome, Some, None, MatchOption};
 ghost use Rattle.chain.specs.Chain.{place, numbered, link_of, put_table, put_head, PutsFirst, first_in, rest_of, TakesFirst, Taken, before, spot_of, Inside, out_table, out_head, is_there, TakesOut};

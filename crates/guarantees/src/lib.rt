@@ -1,6 +1,8 @@
 //! What the rules of the memory guarantee, for every accepted plan, every past and every post, whichever waiting mark each
 //! take picks; and that with less than their figures and premises the guarantees are false. Each function carries a
 //! statement in its contract and does nothing.
+#![tactic(auto)]
+
 ghost use Rattle.std.specs.Prelude.{◌+◌, ◌-◌, ◌*◌};
 ghost use Rattle.guarantees.specs.Needed.{ATurnLessIsTooFew, HoldsKeepBlocks, NoLapIsTooFew, OneLapIsTooFew, TwoRecoveriesAreTooFew};
 ghost use Rattle.guarantees.specs.Picks.{NoTakenMarkIsDropped, PickedPastsArePasts, SameCallsSameEnd, TurnsGoOnAPast};

@@ -1,4 +1,5 @@
 //! The listing of an airport memory's areas: a line of text for each area, into memory that the caller lends.
+#![tactic(auto)]
 
 ghost use Rattle.std.specs.Prelude.{◌≡◌, ◌+◌, ◌%◌, ◌≤◌, ◌++◌, length, take, drop, IfOk, if◌then◌else◌, Some, None, Ok, Err, decimal, nat_le};
 ghost use Rattle.listing.specs.declared.Refusal.TheVariants.{Short};

@@ -1,4 +1,6 @@
 // Plans: trees of areas read out of six-byte records.
+#![tactic(auto)]
+
 mod accepted;
 mod area;
 mod make;

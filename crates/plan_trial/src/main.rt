@@ -3,6 +3,8 @@
 //
 // The file `stdin` has 400 plans, and below them, with notes, plans at the edges of each rule; `stdout` has the answers: to the
 // former those that a model made apart gives, to the latter those that the rules give, worked out by hand.
+#![tactic(auto)]
+
 use anyhow::anyhow;
 use plan::Plan;
 use std::alloc::Global;

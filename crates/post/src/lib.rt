@@ -1,6 +1,8 @@
 // Marks that wait in a post, and what takes them all. Collectors of different areas talk only by
 // marks. What a post means is its size and the set of marks that wait in it, and nothing else about
 // it may be known, so what is proved here over any post holds over any transport.
+#![tactic(auto)]
+
 mod letters;
 mod made;
 mod table;

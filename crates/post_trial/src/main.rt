@@ -1,5 +1,7 @@
 // Drives a table post and a chain post with the same calls, at the edges and at random, and says
 // where they differ.
+#![tactic(auto)]
+
 use post::{ChainPost, Letter, Mark, MarkTable, Post, Refusal, TablePost, drain};
 use std::alloc::{AllocError, Global};
 use std::io;

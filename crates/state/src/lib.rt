@@ -1,4 +1,6 @@
 //! The memory's types, and in specs/ the rules of the memory and what they promise.
+#![tactic(auto)]
+
 mod block;
 mod claims;
 mod collector;

@@ -1,4 +1,6 @@
 //! Trials of the memory's types: messages, registers and holds.
+#![tactic(auto)]
+
 ghost use Rattle.std.specs.Prelude.{◌≡◌};
 
 #[cfg(test)]

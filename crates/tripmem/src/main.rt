@@ -1,4 +1,6 @@
 // Reads the file `plan`, then standard input, and prints the listing of the plan's areas.
+#![tactic(auto)]
+
 mod fresh;
 
 use anyhow::anyhow;

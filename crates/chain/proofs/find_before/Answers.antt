@@ -17,7 +17,7 @@ pub returns-then-after-i : goal.returns-then-after-i
 returns-then-after-i g c =
     let links = map g.R.Linked.link c.args.records.now in
     let left = length c.args.records.now - c.loop.counter in
-    let f = c.in-ok-after.ensures.answer in
+    let f = c.in_ok-after.ensures.answer in
     record {
       answer = sym (before_here links left _ _ (omega arith) f.0 (sym f.1 ∙ c.if-after-i.true)) ∙ c.loop.invariant;
       within = rw length-map at f.0;
@@ -27,7 +27,7 @@ pub loop-preserved : goal.loop-preserved
 loop-preserved g c =
     let links = map g.R.Linked.link c.args.records.now in
     let n = length c.args.records.now in
-    let f = c.in-ok-after.ensures.answer in
+    let f = c.in_ok-after.ensures.answer in
     sym (before_on links (n - c.loop.counter) (n - (c.loop.counter + 1)) _ _ _ (omega arith) f.0 (sym f.1) c.if-after-i.false) ∙ c.loop.invariant
 
 pub returns : goal.returns

@@ -16,7 +16,7 @@ pub returns : goal.returns
 returns g c =
     let link = g.R.Linked.link in
     let xs = c.args.records.now in
-    let f = c.in-ok-k.ensures in
+    let f = c.in_ok-k.ensures in
     let n : c.next.result ≡ link_of (map link xs) c.args.i =
     link_read link xs c.args.i _ _ _ f.1 f.2 (c.next.ensures ∙ ap link c.index-records-k.is)
     in

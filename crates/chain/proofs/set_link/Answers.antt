@@ -20,10 +20,10 @@ returns-in-default g c =
 pub returns : goal.returns
 returns g c =
     let xs = c.args.records.now in
-    let ys = set xs c.in-Some.k c.set-next.new.self in
+    let ys = set xs c.in-Some.k c.set_next.new.self in
     let f = c.in-Some.ensures in
     let table : ys ≡ put_table g.R.Linked.relinked xs c.args.next c.args.i =
-    relink_set g.R.Linked.relinked xs _ _ _ _ _ f.1 f.2 c.set-next.ensures ∙ sym (cond-true _ _ _ f.0)
+    relink_set g.R.Linked.relinked xs _ _ _ _ _ f.1 f.2 c.set_next.ensures ∙ sym (cond-true _ _ _ f.0)
     in
     record {
       answer = sym f.0;
