@@ -5,11 +5,11 @@ use Rattle.chain.specs.declared.Spot.TheVariants.{First, Behind, Nowhere}
 use Rattle.chain.proofs.Chains.{spot_nowhere, spot_first, spot_behind_lem, takes_out}
 use Rattle.chain.proofs.find.Goals as goal
 
-pub returns-in-default : goal.returns-in-default
-returns-in-default g c =
+pub returns-in_default : goal.returns-in_default
+returns-in_default g c =
     let l = g.R.Linked in
     let xs = c.args.records.now in
-    let s : Nowhere ≡ spot_of (map l.link xs) c.args.head c.args.i = spot_nowhere (map l.link xs) c.args.head c.args.i c.in-default.ensures.answer in
+    let s : Nowhere ≡ spot_of (map l.link xs) c.args.head c.args.i = spot_nowhere (map l.link xs) c.args.head c.args.i c.in_default.ensures.answer in
     record { answer = s; within = tt; chain = takes_out l.link l.relinked g.met.R.Linked.relinked_link xs c.args.head c.args.i _ s }
 
 pub returns-then-head-i : goal.returns-then-head-i
@@ -22,13 +22,13 @@ returns-then-head-i g c =
     in
     record { answer = s; within = tt; chain = takes_out l.link l.relinked g.met.R.Linked.relinked_link xs c.args.head c.args.i _ s }
 
-pub returns-in-Some-find-before : goal.returns-in-Some-find-before
-returns-in-Some-find-before g c =
+pub returns-in-Some-find_before : goal.returns-in-Some-find_before
+returns-in-Some-find_before g c =
     let l = g.R.Linked in
     let xs = c.args.records.now in
     let f = c.in-Some.ensures.answer in
-    let b = c.in-Some-find-before.ensures in
-    let s : Behind c.in-Some-find-before.at c.in-Some.next ≡ spot_of (map l.link xs) c.args.head c.args.i =
+    let b = c.in-Some-find_before.ensures in
+    let s : Behind c.in-Some-find_before.at c.in-Some.next ≡ spot_of (map l.link xs) c.args.head c.args.i =
     spot_behind_lem (map l.link xs) c.args.head c.args.i _ _ _ f.0 c.if-head-i.false f.1 (sym (length-map xs l.link)) b.answer
     in
     record { answer = s; within = b.within; chain = takes_out l.link l.relinked g.met.R.Linked.relinked_link xs c.args.head c.args.i _ s }

@@ -4,13 +4,13 @@ use Rattle.chain.specs.Chain.{before}
 use Rattle.chain.proofs.Chains.{before_none, before_here, before_on}
 use Rattle.chain.proofs.find_before.Goals as goal
 
-pub returns-in-err-after : goal.returns-in-err-after
-returns-in-err-after g c =
+pub returns-in_err-after : goal.returns-in_err-after
+returns-in_err-after g c =
     let links = map g.R.Linked.link c.args.records.now in
     let left = length c.args.records.now - c.loop.counter in
     record {
-      answer = c.from-residual.ensures ∙ (sym (before_none links left _ _ c.in-err-after.ensures.answer) ∙ c.loop.invariant);
-      within = rw c.from-residual.ensures tt;
+      answer = c.from_residual.ensures ∙ (sym (before_none links left _ _ c.in_err-after.ensures.answer) ∙ c.loop.invariant);
+      within = rw c.from_residual.ensures tt;
     }
 
 pub returns-then-after-i : goal.returns-then-after-i

@@ -4,12 +4,12 @@ use Rattle.chain.specs.Chain.{link_of}
 use Rattle.chain.proofs.Chains.{link_read, taken_none, taken_some}
 use Rattle.chain.proofs.next_of.Goals as goal
 
-pub returns-in-err-k : goal.returns-in-err-k
-returns-in-err-k g c =
-    let f = c.in-err-k.ensures in
+pub returns-in_err-k : goal.returns-in_err-k
+returns-in_err-k g c =
+    let f = c.in_err-k.ensures in
     record {
-      answer = rw (c.from-residual.ensures, length-map) f;
-      taken = rw c.from-residual.ensures (taken_none g.R.Linked.link c.args.records.now c.args.i f);
+      answer = rw (c.from_residual.ensures, length-map) f;
+      taken = rw c.from_residual.ensures (taken_none g.R.Linked.link c.args.records.now c.args.i f);
     }
 
 pub returns : goal.returns

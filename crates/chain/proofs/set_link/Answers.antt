@@ -5,10 +5,10 @@ use Rattle.chain.specs.Chain.{put_table}
 use Rattle.chain.proofs.Chains.{relink_set, puts_first}
 use Rattle.chain.proofs.set_link.Goals as goal
 
-pub returns-in-default : goal.returns-in-default
-returns-in-default g c =
+pub returns-in_default : goal.returns-in_default
+returns-in_default g c =
     let xs = c.args.records.now in
-    let f = c.in-default.ensures in
+    let f = c.in_default.ensures in
     let table : xs ≡ put_table g.R.Linked.relinked xs c.args.next c.args.i = sym (cond-false _ _ _ f) in
     record {
       answer = sym f;

@@ -8,8 +8,8 @@ pub loop-row-init : goal.loop-row-init
 unfolding written
 loop-row-init c = (refl, refl)
 
-pub put-line-at-requires : goal.put-line-at-requires
-put-line-at-requires c =
+pub put_line-at-requires : goal.put_line-at-requires
+put_line-at-requires c =
     omega (arith, length_more c.args.rows.now c.loop-row.row-index (omega arith), listing_front c.args.rows.now (c.loop-row.row-index + 1))
 
 pub loop-row-preserved : goal.loop-row-preserved
@@ -18,7 +18,7 @@ loop-row-preserved c =
     let i = c.loop-row.row-index in
     let longer = length_more rows i (omega arith) in (
       omega (arith, longer),
-      written_then c.args.out.now 0 (listing (take i rows)) (line (get_or rows i blank)) (omega (arith, longer, listing_front rows i)) c.loop-row.invariant.1 (omega arith) c.put-line-at.ensures.after
+      written_then c.args.out.now 0 (listing (take i rows)) (line (get_or rows i blank)) (omega (arith, longer, listing_front rows i)) c.loop-row.invariant.1 (omega arith) c.put_line-at.ensures.after
           ∙ ap (written c.args.out.now 0) (sym (listing_more rows i (omega arith))),
     )
 

@@ -11,8 +11,8 @@ returns c =
     let text : List ℕ = listing c.args.rows.now in
     let out : List ℕ = c.args.out.now in
     let known = found (leb (length text) (length out)) c.in-Some.size (length text) c.in-Some.ensures in
-    let after : c.put-lines.new.out ≡ text ++ drop (length text) out = c.put-lines.ensures ∙ written_front out text in
-    let front : take c.in-Some.size c.put-lines.new.out ≡ text = ap (take c.in-Some.size) after ∙ take_at text (drop (length text) out) c.in-Some.size (sym known.1) in
+    let after : c.put_lines.new.out ≡ text ++ drop (length text) out = c.put_lines.ensures ∙ written_front out text in
+    let front : take c.in-Some.size c.put_lines.new.out ≡ text = ap (take c.in-Some.size) after ∙ take_at text (drop (length text) out) c.in-Some.size (sym known.1) in
     record {
       answer = ap Ok known.1 ∙ sym (cond-true _ _ _ known.0);
       after = after ∙ sym (cond-true _ _ _ known.0);

@@ -28,7 +28,7 @@ loop-mark-preserved g c =
 
 pub returns : goal.returns
 returns g c =
-    let t = c.in-default.ensures in
+    let t = c.in_default.ensures in
     let inv = c.loop-mark.invariant in
     let first = c.args.first in
     let last = c.args.last in

@@ -17,8 +17,8 @@ loop-turn-init t c =
     rw (e, ← walk_level c.args.areas.now c.args.level c.args.parent c.args.first c.args.before c.if-level-eq0.false)
     (walked_start _ _ _ _ c.requires.room c.requires.small)
 
-pub returns-in-default : goal.returns-in-default
-returns-in-default t c = walked_done _ _ _ _ _ _ _ (along_end _ _ _ _ _ _ _ (none_from (numbered (length c.args.areas.now) c.loop-turn.at) c.loop-turn.at c.in-default.ensures.answer)) c.loop-turn.invariant
+pub returns-in_default : goal.returns-in_default
+returns-in_default t c = walked_done _ _ _ _ _ _ _ (along_end _ _ _ _ _ _ _ (none_from (numbered (length c.args.areas.now) c.loop-turn.at) c.loop-turn.at c.in_default.ensures.answer)) c.loop-turn.invariant
 
 pub returns-then-index-areas : goal.returns-then-index-areas
 returns-then-index-areas t c = walked_full _ _ _ _ _ _ _ (omega (arith, c.if-index-areas.true, c.len-index.ensures, c.loop-turn.seen.ok.0)) c.loop-turn.invariant
@@ -28,7 +28,7 @@ abbrev with_after : Place → ℕ → Place
 with_after p e = record { area = p.area; level = p.level; parent = p.parent; before = p.before; after = e }
 
 -- the walk has met no more areas than there are
-short : (t : ℕ) (c : goal.After-own-slots t) → length (vec_items c.loop-turn.seen) ≤ length c.args.areas.now
+short : (t : ℕ) (c : goal.After-own_slots t) → length (vec_items c.loop-turn.seen) ≤ length c.args.areas.now
 short t c = omega (arith, c.if-index-areas.false, c.len-index.ensures, c.loop-turn.seen.ok.0)
 
 pub overflow-add-slots : goal.overflow-add-slots
@@ -36,7 +36,7 @@ overflow-add-slots t c = omega (arith, short t c, c.loop-turn.invariant.small, c
 
 pub walk-requires : goal.walk-requires
 walk-requires t c =
-    let e = ap length c.in-ok-push.ensures.items ∙ length_push (vec_items c.loop-turn.seen) _ in
+    let e = ap length c.in_ok-push.ensures.items ∙ length_push (vec_items c.loop-turn.seen) _ in
     (omega (arith, c.decreases, c.if-level-eq0.false), (c.requires.few, (omega (arith, e, c.if-index-areas.false, c.len-index.ensures, c.loop-turn.seen.ok.0), omega (arith, e, c.loop-turn.invariant.small, c.own_slots.ensures.bound))))
 
 pub loop-turn-preserved : goal.loop-turn-preserved
@@ -49,14 +49,14 @@ loop-turn-preserved t c =
     let p : ℕ → Place = λ e. record { area = i; level = c.args.level; parent = c.args.parent; before = b; after = e } in
     let took = some_from_lem (numbered (length areas) c.loop-turn.at) c.loop-turn.at i c.in-Some.ensures.answer in
     let at-end : c.len-index.result ≡ length (vec_items c.loop-turn.seen) = c.len-index.ensures ∙ c.loop-turn.seen.ok.0 in
-    walked_turn areas _ _ _ _ (lower i (area_at areas i).child (b + s)) (along areas lower c.args.level c.args.parent (length areas + 1 - (c.loop-turn.turn + 1)) c.take-first.new.head) p s b c.in-ok-slots.slots (vec_items c.loop-turn.seen) (vec_items c.push.new.self) (vec_items c.walk.new.seen) _ c.index-mut.result.now (with_after c.index-mut.result.now c.in-ok-slots.slots)
+    walked_turn areas _ _ _ _ (lower i (area_at areas i).child (b + s)) (along areas lower c.args.level c.args.parent (length areas + 1 - (c.loop-turn.turn + 1)) c.take_first.new.head) p s b c.in_ok-slots.slots (vec_items c.loop-turn.seen) (vec_items c.push.new.self) (vec_items c.walk.new.seen) _ c.index-mut.result.now (with_after c.index-mut.result.now c.in_ok-slots.slots)
     (splits_at areas lower _ _ _ _ _ i b _ (omega (arith, c.loop-turn-test.true)) took.0 took.1 (next_area areas _ _ took.0 c.in-Some.ensures.begins))
     (λ _. refl) c.loop-turn.invariant
-    c.in-ok-push.ensures.items
-    (subst (λ x. Walked areas (lower i (area_at areas i).child (b + x)) (b + x) (vec_items c.push.new.self) [] c.in-ok-slots.slots (vec_items c.walk.new.seen)) c.own_slots.ensures.value c.in-ok-slots.ensures)
+    c.in_ok-push.ensures.items
+    (subst (λ x. Walked areas (lower i (area_at areas i).child (b + x)) (b + x) (vec_items c.push.new.self) [] c.in_ok-slots.slots (vec_items c.walk.new.seen)) c.own_slots.ensures.value c.in_ok-slots.ensures)
     (c.index-mut.ensures.value ∙ ap (λ k. get_or (vec_items c.walk.new.seen) k c.index-mut.result.now) at-end)
-    (ap (λ k. set (vec_items c.walk.new.seen) k (with_after c.index-mut.result.now c.in-ok-slots.slots)) at-end)
-    (ap (λ q. with_after q c.in-ok-slots.slots))
+    (ap (λ k. set (vec_items c.walk.new.seen) k (with_after c.index-mut.result.now c.in_ok-slots.slots)) at-end)
+    (ap (λ q. with_after q c.in_ok-slots.slots))
 
 pub returns : goal.returns
 returns t c =

@@ -20,7 +20,7 @@ pub bounds-areas-area : goal.bounds-areas-area
 bounds-areas-area c = let n = number c.args.areas.now c.args.order.now c.loop-i.i (record { area = 0; level = 0; parent = 0; before = 0; after = 0 }) c.loop-i-test.true c.requires in omega (arith, n.0, n.1)
 
 pub loop-i-preserved : goal.loop-i-preserved
-loop-i-preserved c = homes_more c.args.areas.now c.args.order.now c.loop-i.i _ _ _ c.loop-i-test.true c.loop-i.invariant c.in-ok-push-home.ensures
+loop-i-preserved c = homes_more c.args.areas.now c.args.order.now c.loop-i.i _ _ _ c.loop-i-test.true c.loop-i.invariant c.in_ok-push_home.ensures
 
 pub returns : goal.returns
 returns c = c.loop-i.invariant ∙ ap (homes_in c.args.areas.now) (take_all _ c.args.order.now c.loop-i-test.false)

@@ -10,11 +10,11 @@ here : (ps : List Place) (area i : ℕ) (d : Place) (b : Bool) → i < length ps
 here ps area i d b l e u =
     at_drop_more (λ xs. only_place xs area) ps i d l ∙ rw (eq-eqb (get_or ps i d).area area e, u, take_rest ps (i + 1))
 
-pub returns-then-is-unmet : goal.returns-then-is-unmet
-returns-then-is-unmet c = sym (c.loop-i.invariant ∙ here _ _ _ _ true c.loop-i-test.true c.if-here-area.true c.if-is-unmet.ensures)
+pub returns-then-is_unmet : goal.returns-then-is_unmet
+returns-then-is_unmet c = sym (c.loop-i.invariant ∙ here _ _ _ _ true c.loop-i-test.true c.if-here-area.true c.if-is_unmet.ensures)
 
-pub returns-else-is-unmet : goal.returns-else-is-unmet
-returns-else-is-unmet c = sym (c.loop-i.invariant ∙ here _ _ _ _ false c.loop-i-test.true c.if-here-area.true c.if-is-unmet.ensures)
+pub returns-else-is_unmet : goal.returns-else-is_unmet
+returns-else-is_unmet c = sym (c.loop-i.invariant ∙ here _ _ _ _ false c.loop-i-test.true c.if-here-area.true c.if-is_unmet.ensures)
 
 pub loop-i-preserved : goal.loop-i-preserved
 loop-i-preserved c =

@@ -10,16 +10,16 @@ loop-block-init c =
     let w = posted heads c.args.letters.now in
     λ b h e m. before (length heads) w (posted_marks heads c.args.letters.now) c.args.first c.args.last b m c.args.level (omega arith) e
 
-pub visits-level-requires : goal.visits-level-requires
-visits-level-requires c =
+pub visits_level-requires : goal.visits_level-requires
+visits_level-requires c =
     let b = c.loop-block.block in
     row_chained c.args.heads.now c.args.letters.now b (c.requires b (omega arith) (omega arith))
 
-pub returns-then-visits-level : goal.returns-then-visits-level
-returns-then-visits-level c =
+pub returns-then-visits_level : goal.returns-then-visits_level
+returns-then-visits_level c =
     let heads = c.args.heads.now in
     let b = c.loop-block.block in
-    let (m, on) = level_some heads c.args.letters.now b c.args.level c.requires (omega arith) (omega arith) (sym c.if-visits-level.ensures) in
+    let (m, on) = level_some heads c.args.letters.now b c.args.level c.requires (omega arith) (omega arith) (sym c.if-visits_level.ensures) in
     (b, m, within_from c.args.first c.args.last b (omega arith) (omega arith), on)
 
 pub loop-block-preserved : goal.loop-block-preserved
@@ -27,7 +27,7 @@ loop-block-preserved c =
     let heads = c.args.heads.now in
     let b = c.loop-block.block in
     below_more _ _ c.loop-block.invariant
-    (λ e m. level_none heads c.args.letters.now b c.args.level c.requires (omega arith) (omega arith) (sym c.if-visits-level.ensures) m)
+    (λ e m. level_none heads c.args.letters.now b c.args.level c.requires (omega arith) (omega arith) (sym c.if-visits_level.ensures) m)
 
 pub returns : goal.returns
 returns c =

@@ -20,7 +20,7 @@ returns-then-visits c =
       tidy = c.requires.tidy;
       after =
           put_again heads letters k c.requires.mark
-          (ap (λ i. among i (waiting heads letters k.block)) (sym c.letter-of-i.ensures) ∙ sym c.if-visits.ensures);
+          (ap (λ i. among i (waiting heads letters k.block)) (sym c.letter_of-i.ensures) ∙ sym c.if-visits.ensures);
     }
 
 pub returns : goal.returns
@@ -28,8 +28,8 @@ returns c =
     let heads = c.args.heads.now in
     let letters = c.args.letters.now in
     let k = c.args.mark in
-    let put = c.put-first in
+    let put = c.put_first in
     let done =
-    put_done heads letters put.new.records k put.new.head c.letter-of-i.result c.requires.tidy c.requires.room c.requires.mark c.letter-of-i.ensures
+    put_done heads letters put.new.records k put.new.head c.letter_of-i.result c.requires.tidy c.requires.room c.requires.mark c.letter_of-i.ensures
     (sym c.if-visits.ensures) put.ensures.table put.ensures.chain in
     record { tidy = done.0; after = done.1 }

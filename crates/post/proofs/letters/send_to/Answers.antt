@@ -16,7 +16,7 @@ returns c =
     let letters' = c.put.new.letters in
     let eh = c.put.auto.heads ∙ c.deref-mut.ensures.len in
     let el = c.put.auto.letters ∙ c.deref-mut-2.ensures.len in
-    let on : mark_in v.len k ≡ true = ap (λ n. mark_in n k) (sym c.len.ensures) ∙ sym c.if-not-is-of.ensures in
+    let on : mark_in v.len k ≡ true = ap (λ n. mark_in n k) (sym c.len.ensures) ∙ sym c.if-not-is_of.ensures in
     let after =
     c.put.ensures.after
     ∙ ap (λ hs. added k (posted hs c.deref-mut-2.result.now)) c.deref-mut.ensures.value

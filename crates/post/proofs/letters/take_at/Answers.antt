@@ -8,13 +8,13 @@ use Rattle.post.specs.Mail.{read}
 use Rattle.post.specs.Posted.{first_numbered, take_none, take_tidy, take_posted, take_waits}
 use Rattle.post.proofs.letters.take_at.Goals as goal
 
-pub returns-in-default : goal.returns-in-default
-returns-in-default c =
+pub returns-in_default : goal.returns-in_default
+returns-in_default c =
     let heads = c.args.heads.now in
     let letters = c.args.letters.now in
     record {
       tidy = c.requires.tidy;
-      taken = (quiet_one c.args.block (posted heads letters) (take_none heads letters c.args.block c.take-first.new.head c.requires.tidy c.requires.block.0 c.requires.block.1 c.in-default.ensures.chain), refl);
+      taken = (quiet_one c.args.block (posted heads letters) (take_none heads letters c.args.block c.take_first.new.head c.requires.tidy c.requires.block.0 c.requires.block.1 c.in_default.ensures.chain), refl);
       same = refl;
     }
 
@@ -24,7 +24,7 @@ returns c =
     let letters = c.args.letters.now in
     let b = c.args.block in
     let i = c.in-Some.i in
-    let h = c.take-first.new.head in
+    let h = c.take_first.new.head in
     let takes = c.in-Some.ensures.chain in
     let x : Letter = get_or letters (i - 1) (record { entry = 0; level = 0; next = 0 }) in
     let k : Mark = record { block = b; entry = x.entry; level = x.level } in

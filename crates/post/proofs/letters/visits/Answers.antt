@@ -19,4 +19,4 @@ loop-letter-preserved c =
     search_more (eqb c.args.i) c.args.letters.now c.args.head c.loop-letter.at c.loop-letter.invariant c.in-Some.ensures.0 c.in-Some.letter.next c.in-Some.ensures.3 (ne_eqb _ _ (λ e. c.if-at-i.false (sym e)))
 
 pub returns : goal.returns
-returns c = search_end (eqb c.args.i) c.args.letters.now c.args.head c.loop-letter.at c.loop-letter.invariant c.in-default.ensures ∙ sym (among_some c.args.i _)
+returns c = search_end (eqb c.args.i) c.args.letters.now c.args.head c.loop-letter.at c.loop-letter.invariant c.in_default.ensures ∙ sym (among_some c.args.i _)

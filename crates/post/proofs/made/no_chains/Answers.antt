@@ -5,5 +5,5 @@ use Rattle.post.proofs.made.no_chains.Goals as goal
 
 pub returns : goal.returns
 returns c =
-    let made = c.in-ok-heads.ensures in
+    let made = c.in_ok-heads.ensures in
     (made.len, subst NoLetters (sym (made.items-if-clones-equal (λ y e. e))) (no_letters c.args.size))

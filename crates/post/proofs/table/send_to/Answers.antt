@@ -8,7 +8,7 @@ pub returns : goal.returns
 returns c =
     let v = c.args.table.now in
     let k = c.args.mark in
-    let on : mark_in v.len k ≡ true = ap (λ n. mark_in n k) (sym c.len.ensures) ∙ sym c.if-not-is-of.ensures in
+    let on : mark_in v.len k ≡ true = ap (λ n. mark_in n k) (sym c.len.ensures) ∙ sym c.if-not-is_of.ensures in
     record {
       answer = sym (cond-true (mark_in v.len k) _ _ on);
       len = refl;

@@ -9,5 +9,5 @@ pub loop-i-preserved : goal.loop-i-preserved
 loop-i-preserved c =
     let areas = vec_items c.args.plan.now.areas in
     let i = c.loop-i.i in
-    count_push (fresh_row areas) _ _ _ i c.in-ok-push.ensures.items c.loop-i.invariant
+    count_push (fresh_row areas) _ _ _ i c.in_ok-push.ensures.items c.loop-i.invariant
     (some_from_lem (numbered (length areas) (i + 1)) (fresh_row areas (i + 1)) c.in-Some.row c.in-Some.ensures).1

@@ -5,24 +5,24 @@ use Rattle.plan.proofs.Asked.{meet_none, meet_here, meet_more}
 use Rattle.plan.proofs.Rules.{plan_rules}
 use Rattle.plan.proofs.accepted.Plan.common_level.Goals as goal
 
-pub returns-then-over-x-over-y : goal.returns-then-over-x-over-y
-returns-then-over-x-over-y c =
-    ap (λ l. Some l) (sym (c.loop-level.invariant ∙ meet_here (vec_items c.args.self.now.areas) _ _ _ _ c.if-over-x-over-y.true))
-    ∙ sym (cond-true _ _ _ (and_from _ _ (sym c.if-not-is-lowest.ensures) (sym c.if-not-is-lowest-2.ensures)))
+pub returns-then-over_x-over_y : goal.returns-then-over_x-over_y
+returns-then-over_x-over_y c =
+    ap (λ l. Some l) (sym (c.loop-level.invariant ∙ meet_here (vec_items c.args.self.now.areas) _ _ _ _ c.if-over_x-over_y.true))
+    ∙ sym (cond-true _ _ _ (and_from _ _ (sym c.if-not-is_lowest.ensures) (sym c.if-not-is_lowest-2.ensures)))
 
 pub loop-level-preserved : goal.loop-level-preserved
 loop-level-preserved c =
     let areas = vec_items c.args.self.now.areas in
     let left = top_level areas - (c.loop-level.level + 1) in
     c.loop-level.invariant
-    ∙ meet_more areas _ left _ _ _ (omega (arith, c.loop-level-test.true, c.top-level-level-end.ensures)) c.if-over-x-over-y.false
-    ∙ ap (λ x. meet_from (parent_of areas) left (c.loop-level.level + 1) x (parent_of areas c.loop-level.over-y)) (sym c.parent-over-x.ensures)
-    ∙ ap (λ y. meet_from (parent_of areas) left (c.loop-level.level + 1) c.parent-over-x.result y) (sym c.parent-over-y.ensures)
+    ∙ meet_more areas _ left _ _ _ (omega (arith, c.loop-level-test.true, c.top_level-level-end.ensures)) c.if-over_x-over_y.false
+    ∙ ap (λ x. meet_from (parent_of areas) left (c.loop-level.level + 1) x (parent_of areas c.loop-level.over_y)) (sym c.parent-over_x.ensures)
+    ∙ ap (λ y. meet_from (parent_of areas) left (c.loop-level.level + 1) c.parent-over_x.result y) (sym c.parent-over_y.ensures)
 
 pub returns : goal.returns
 returns c =
     let areas = vec_items c.args.self.now.areas in
     let high = (plan_rules areas c.args.self.now.accepted).high in
-    let last : c.loop-level.level ≡ top_level areas = omega (arith, c.loop-level-test.false, c.loop-level.auto.level-end, c.top-level-level-end.ensures, high) in
-    ap (λ l. Some l) (c.top-level.ensures ∙ sym last ∙ sym (c.loop-level.invariant ∙ meet_none areas _ _ _ _ (omega (arith, last))))
-    ∙ sym (cond-true _ _ _ (and_from _ _ (sym c.if-not-is-lowest.ensures) (sym c.if-not-is-lowest-2.ensures)))
+    let last : c.loop-level.level ≡ top_level areas = omega (arith, c.loop-level-test.false, c.loop-level.auto.level-end, c.top_level-level-end.ensures, high) in
+    ap (λ l. Some l) (c.top_level.ensures ∙ sym last ∙ sym (c.loop-level.invariant ∙ meet_none areas _ _ _ _ (omega (arith, last))))
+    ∙ sym (cond-true _ _ _ (and_from _ _ (sym c.if-not-is_lowest.ensures) (sym c.if-not-is_lowest-2.ensures)))

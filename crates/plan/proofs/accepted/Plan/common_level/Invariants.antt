@@ -5,4 +5,4 @@ use Rattle.plan.proofs.accepted.Plan.common_level.Given as goal
 abbrev pub invariant-loop-level : goal.invariant-loop-level
 invariant-loop-level l =
     common_level (vec_items l.self.areas) l.x l.y ≡
-    meet_from (parent_of (vec_items l.self.areas)) (top_level (vec_items l.self.areas) - l.level) l.level l.over-x l.over-y
+    meet_from (parent_of (vec_items l.self.areas)) (top_level (vec_items l.self.areas) - l.level) l.level l.over_x l.over_y

@@ -21,29 +21,29 @@ returns-then-length-ne0 c =
     let f : good_length (length c.args.bytes.now) ≡ false = grind (arith, nat_tests, h) in
     record { answer = length_refused c.args.bytes.now f; laws = tt; tree = accepted_exactly_trees c.args.bytes.now }
 
-pub returns-in-err-areas : goal.returns-in-err-areas
-returns-in-err-areas c =
+pub returns-in_err-areas : goal.returns-in_err-areas
+returns-in_err-areas c =
     let bytes = c.args.bytes.now in
     let good : good_length (length bytes) ≡ true = grind (arith, nat_tests, c.if-length-ne0.false, c.if-length-lt6.false, c.if-length-gt384.false) in
-    let p = err_from_is_err_and c.from-residual.result c.from-residual.ensures.1 in
+    let p = err_from_is_err_and c.from_residual.result c.from_residual.ensures.1 in
     record {
-      answer = handed_on _ (read_records bytes (length bytes / 6)) _ _ p.0 c.in-err-areas.field-0.0 p.1 p.2 (records_refused bytes good _) c.in-err-areas.ensures;
-      laws = IfOk-from_err _ _ c.from-residual.ensures.0;
+      answer = handed_on _ (read_records bytes (length bytes / 6)) _ _ p.0 c.in_err-areas.field-0.0 p.1 p.2 (records_refused bytes good _) c.in_err-areas.ensures;
+      laws = IfOk-from_err _ _ c.from_residual.ensures.0;
       tree = accepted_exactly_trees bytes;
     }
 
-pub of-areas-requires : goal.of-areas-requires
-of-areas-requires c =
+pub of_areas-requires : goal.of_areas-requires
+of_areas-requires c =
     let bytes = c.args.bytes.now in
     let good : good_length (length bytes) ≡ true = grind (arith, nat_tests, c.if-length-ne0.false, c.if-length-lt6.false, c.if-length-gt384.false) in
-    record { few = few_told bytes good _ c.in-ok-areas.ensures; range = range_told bytes good _ c.in-ok-areas.ensures }
+    record { few = few_told bytes good _ c.in_ok-areas.ensures; range = range_told bytes good _ c.in_ok-areas.ensures }
 
 pub returns : goal.returns
 returns c =
     let bytes = c.args.bytes.now in
     let good : good_length (length bytes) ≡ true = grind (arith, nat_tests, c.if-length-ne0.false, c.if-length-lt6.false, c.if-length-gt384.false) in
     record {
-      answer = subst (λ due. Answers (λ p. vec_items p.areas) due c.of-areas.result) (sym (read_on bytes good _ c.in-ok-areas.ensures)) c.of-areas.ensures;
-      laws = lawful c.of-areas.result;
+      answer = subst (λ due. Answers (λ p. vec_items p.areas) due c.of_areas.result) (sym (read_on bytes good _ c.in_ok-areas.ensures)) c.of_areas.ensures;
+      laws = lawful c.of_areas.result;
       tree = accepted_exactly_trees bytes;
     }
