@@ -127,11 +127,11 @@ pub struct MarkTable {
 // Takes every mark that waits in the blocks from `first` to `last`, and hands each on. One take and
 // one receive for each such mark, and one take that finds none.
 pub fn drain<P: Post, R: Receiver>(post: &mut P, first: u16, last: u16, to: &mut R)
-    ensures size { size post.new ≡ size post.old }
-    ensures after { waits post.new ≡ outside first last (waits post.old) }
-    ensures room { room to.new ≡ room to.old }
-    ensures handed { got to.new ≡ either (got to.old) (marks_of (room to.old) (inside first last (waits post.old))) }
-    ensures whole { size post.old ≤ room to.old → got to.new ≡ either (got to.old) (inside first last (waits post.old)) }
+    ensures size { P.size post.new ≡ P.size post.old }
+    ensures after { P.waits post.new ≡ outside first last (P.waits post.old) }
+    ensures room { R.room to.new ≡ R.room to.old }
+    ensures handed { R.got to.new ≡ either (R.got to.old) (marks_of (R.room to.old) (inside first last (P.waits post.old))) }
+    ensures whole { P.size post.old ≤ R.room to.old → R.got to.new ≡ either (R.got to.old) (inside first last (P.waits post.old)) }
 {
     loop {
         let Some(mark) = post.take(first, last) else {
@@ -148,5 +148,5 @@ pub fn any_order()
 
 // No mark waits in a post for a block that is none of its own.
 pub fn stays_in<P: Post>(_post: &P)
-    ensures { StaysIn P size waits }
+    ensures { StaysIn P P.size P.waits }
 {}

@@ -10,12 +10,12 @@ returns-in_err-places c =
     handed_on _ (tables_of c.deref.result.now) _ _ p.0 c.in_err-places.field-0.0 p.1 p.2
     (λ e. tree_refused _ _ (ap tables_of (sym c.deref.ensures.value) ∙ e)) c.in_err-places.ensures
 
-pub invariant-of-result : goal.invariant-of-result
-invariant-of-result c =
+pub invariant_of-result : goal.invariant_of-result
+invariant_of-result c =
     let areas = vec_items c.args.areas in
     let made = ap tables_of (sym c.deref.ensures.value) ∙ c.in_ok-places.ensures in
     let told = tables_told areas _ made in
-    (plan_sound areas _ made c.requires.few c.requires.range, (ap (λ t. t.0) told, (ap (λ t. t.1) told, tt)))
+    record { accepted = plan_sound areas _ made c.requires.few c.requires.range; placed = ap (λ t. t.0) told; housed = ap (λ t. t.1) told }
 
 pub returns : goal.returns
 returns c = tree_read (vec_items c.args.areas) _ (ap tables_of (sym c.deref.ensures.value) ∙ c.in_ok-places.ensures)

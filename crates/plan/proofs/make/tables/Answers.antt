@@ -1,4 +1,3 @@
-use denote.Slice.{shr_slice_at}
 use Rattle.std.proofs.Common.{◌≡◌, ℕ, true, cond, List, map, length, Ok, Err, vec_items, sym, refl, ap, ◌∙◌, subst, arith}
 use Rattle.std.specs.List.{range_with_len, AllByRecursion as All}
 use Rattle.std.proofs.lemmas.Result.{err_from_is_err_and}
@@ -14,8 +13,8 @@ use Rattle.plan.proofs.Walks.{walk_numbered}
 use Rattle.plan.proofs.make.tables.Goals as goal
 
 -- the walk, as the slice that is handed on
-shr_slice_at : (areas : List Area) (w o : List Place) (s : ℕ) → o ≡ w → order_of areas ≡ Ok (w, s) → order_of areas ≡ Ok (o, s)
-shr_slice_at areas w o s e h = h ∙ ap (λ x. Ok (x, s)) (sym e)
+at_slice : (areas : List Area) (w o : List Place) (s : ℕ) → o ≡ w → order_of areas ≡ Ok (w, s) → order_of areas ≡ Ok (o, s)
+at_slice areas w o s e h = h ∙ ap (λ x. Ok (x, s)) (sym e)
 
 pub returns-in_err-walked : goal.returns-in_err-walked
 returns-in_err-walked c =
@@ -28,7 +27,7 @@ pub returns-in_err-places : goal.returns-in_err-places
 returns-in_err-places c =
     let areas = c.args.areas.now in
     let order = c.as_slice-order.result.now in
-    let ordered = shr_slice_at areas _ order _ c.as_slice-order.ensures.value c.in_ok-walked.ensures in
+    let ordered = at_slice areas _ order _ c.as_slice-order.ensures.value c.in_ok-walked.ensures in
     let p = err_from_is_err_and c.from_residual-in_err-places.result c.from_residual-in_err-places.ensures.1 in
     handed_on _ (cond (placed order (length areas)) (Ok (map (place_in order) (range_with_len 1 (length areas)))) (Err NotATree)) _ _ p.0 c.in_err-places.field-0.0 p.1 p.2
     (λ e. tables_refused areas _ (places_refused areas order _ ordered _ e)) c.in_err-places.ensures
@@ -36,25 +35,25 @@ returns-in_err-places c =
 pub returns-in-Some : goal.returns-in-Some
 returns-in-Some c =
     let areas = c.args.areas.now in
-    let ordered = shr_slice_at areas _ c.as_slice-order.result.now _ c.as_slice-order.ensures.value c.in_ok-walked.ensures in
+    let ordered = at_slice areas _ c.as_slice-order.result.now _ c.as_slice-order.ensures.value c.in_ok-walked.ensures in
     tables_refused areas _ (slots_refused areas _ _ ordered _ c.in_ok-places.ensures _ c.in-Some.ensures)
 
 pub returns-then-slots-gt1024 : goal.returns-then-slots-gt1024
 returns-then-slots-gt1024 c =
     let areas = c.args.areas.now in
-    let ordered = shr_slice_at areas _ c.as_slice-order.result.now _ c.as_slice-order.ensures.value c.in_ok-walked.ensures in
+    let ordered = at_slice areas _ c.as_slice-order.result.now _ c.as_slice-order.ensures.value c.in_ok-walked.ensures in
     tables_refused areas _ (total_refused areas _ _ ordered _ c.in_ok-places.ensures c.in_default.ensures c.if-slots-gt1024.true)
 
 pub homes_of-requires : goal.homes_of-requires
 homes_of-requires c =
     let areas = c.args.areas.now in
-    let ordered = shr_slice_at areas _ c.as_slice-order.result.now _ c.as_slice-order.ensures.value c.in_ok-walked.ensures in
+    let ordered = at_slice areas _ c.as_slice-order.result.now _ c.as_slice-order.ensures.value c.in_ok-walked.ensures in
     subst (All (λ p. numbered (length areas) p.area ≡ true)) (sym (order_told areas _ _ ordered)) (walk_numbered areas _ _ _ _)
 
 pub returns : goal.returns
 returns c =
     let areas = c.args.areas.now in
-    let ordered = shr_slice_at areas _ c.as_slice-order.result.now _ c.as_slice-order.ensures.value c.in_ok-walked.ensures in
+    let ordered = at_slice areas _ c.as_slice-order.result.now _ c.as_slice-order.ensures.value c.in_ok-walked.ensures in
     let read = plan_read areas _ _ ordered _ c.in_ok-places.ensures c.in_default.ensures c.if-slots-gt1024.false in
     let p : vec_items c.in_ok-places.places ≡ places_of areas = places_told areas _ _ ordered _ c.in_ok-places.ensures in
     let h : vec_items c.in_ok-homes.homes ≡ homes_of areas = c.in_ok-homes.ensures ∙ ap (homes_in areas) (order_told areas _ _ ordered) in

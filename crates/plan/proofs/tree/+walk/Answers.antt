@@ -31,8 +31,8 @@ with_after p e = record { area = p.area; level = p.level; parent = p.parent; bef
 short : (t : ℕ) (c : goal.After-own_slots t) → length (vec_items c.loop-turn.seen) ≤ length c.args.areas.now
 short t c = omega (arith, c.if-index-areas.false, c.len-index.ensures, c.loop-turn.seen.ok.0)
 
-pub overflow-add-slots : goal.overflow-add-slots
-overflow-add-slots t c = omega (arith, short t c, c.loop-turn.invariant.small, c.requires.few, c.own_slots.ensures.bound)
+pub overflow_add-slots : goal.overflow_add-slots
+overflow_add-slots t c = omega (arith, short t c, c.loop-turn.invariant.small, c.requires.few, c.own_slots.ensures.bound)
 
 pub walk-requires : goal.walk-requires
 walk-requires t c =
@@ -49,13 +49,13 @@ loop-turn-preserved t c =
     let p : ℕ → Place = λ e. record { area = i; level = c.args.level; parent = c.args.parent; before = b; after = e } in
     let took = some_from_lem (numbered (length areas) c.loop-turn.at) c.loop-turn.at i c.in-Some.ensures.answer in
     let at-end : c.len-index.result ≡ length (vec_items c.loop-turn.seen) = c.len-index.ensures ∙ c.loop-turn.seen.ok.0 in
-    walked_turn areas _ _ _ _ (lower i (area_at areas i).child (b + s)) (along areas lower c.args.level c.args.parent (length areas + 1 - (c.loop-turn.turn + 1)) c.take_first.new.head) p s b c.in_ok-slots.slots (vec_items c.loop-turn.seen) (vec_items c.push.new.self) (vec_items c.walk.new.seen) _ c.index-mut.result.now (with_after c.index-mut.result.now c.in_ok-slots.slots)
+    walked_turn areas _ _ _ _ (lower i (area_at areas i).child (b + s)) (along areas lower c.args.level c.args.parent (length areas + 1 - (c.loop-turn.turn + 1)) c.take_first.new.head) p s b c.in_ok-slots.slots (vec_items c.loop-turn.seen) (vec_items c.push.new.self) (vec_items c.walk.new.seen) _ c.index_mut.result.now (with_after c.index_mut.result.now c.in_ok-slots.slots)
     (splits_at areas lower _ _ _ _ _ i b _ (omega (arith, c.loop-turn-test.true)) took.0 took.1 (next_area areas _ _ took.0 c.in-Some.ensures.begins))
     (λ _. refl) c.loop-turn.invariant
     c.in_ok-push.ensures.items
     (subst (λ x. Walked areas (lower i (area_at areas i).child (b + x)) (b + x) (vec_items c.push.new.self) [] c.in_ok-slots.slots (vec_items c.walk.new.seen)) c.own_slots.ensures.value c.in_ok-slots.ensures)
-    (c.index-mut.ensures.value ∙ ap (λ k. get_or (vec_items c.walk.new.seen) k c.index-mut.result.now) at-end)
-    (ap (λ k. set (vec_items c.walk.new.seen) k (with_after c.index-mut.result.now c.in_ok-slots.slots)) at-end)
+    (c.index_mut.ensures.value ∙ ap (λ k. get_or (vec_items c.walk.new.seen) k c.index_mut.result.now) at-end)
+    (ap (λ k. set (vec_items c.walk.new.seen) k (with_after c.index_mut.result.now c.in_ok-slots.slots)) at-end)
     (ap (λ q. with_after q c.in_ok-slots.slots))
 
 pub returns : goal.returns

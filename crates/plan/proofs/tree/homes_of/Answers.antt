@@ -13,8 +13,8 @@ use Rattle.plan.proofs.tree.homes_of.Goals as goal
 number : (areas : List Area) (order : List Place) (i : ℕ) (d : Place) → i < length order → All (λ p. numbered (length areas) p.area ≡ true) order → (1 ≤ (get_or order i d).area) × ((get_or order i d).area ≤ length areas)
 number areas order i d l a = numbered_parts (length areas) _ (All-get_or (λ p. numbered (length areas) p.area ≡ true) order i d l a)
 
-pub overflow-sub-area : goal.overflow-sub-area
-overflow-sub-area c = (number c.args.areas.now c.args.order.now _ _ c.loop-i-test.true c.requires).0
+pub overflow_sub-area : goal.overflow_sub-area
+overflow_sub-area c = (number c.args.areas.now c.args.order.now _ _ c.loop-i-test.true c.requires).0
 
 pub bounds-areas-area : goal.bounds-areas-area
 bounds-areas-area c = let n = number c.args.areas.now c.args.order.now c.loop-i.i (record { area = 0; level = 0; parent = 0; before = 0; after = 0 }) c.loop-i-test.true c.requires in omega (arith, n.0, n.1)

@@ -14,13 +14,13 @@ returns c =
     let w = posted v.items u.items in
     let heads' = c.put.new.heads in
     let letters' = c.put.new.letters in
-    let eh = c.put.auto.heads ∙ c.deref-mut.ensures.len in
-    let el = c.put.auto.letters ∙ c.deref-mut-2.ensures.len in
+    let eh = c.put.auto.heads ∙ c.deref_mut.ensures.len in
+    let el = c.put.auto.letters ∙ c.deref_mut-2.ensures.len in
     let on : mark_in v.len k ≡ true = ap (λ n. mark_in n k) (sym c.len.ensures) ∙ sym c.if-not-is_of.ensures in
     let after =
     c.put.ensures.after
-    ∙ ap (λ hs. added k (posted hs c.deref-mut-2.result.now)) c.deref-mut.ensures.value
-    ∙ ap (λ ls. added k (posted v.items ls)) c.deref-mut-2.ensures.value
+    ∙ ap (λ hs. added k (posted hs c.deref_mut-2.result.now)) c.deref_mut.ensures.value
+    ∙ ap (λ ls. added k (posted v.items ls)) c.deref_mut-2.ensures.value
     ∙ sym (cond-true (mark_in v.len k) (added k w) w on) in
     let P : List ℕ → List Letter → Type 0 = λ hs ls. posted hs ls ≡ sent v.len k w in
     record {

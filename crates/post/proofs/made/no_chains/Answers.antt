@@ -6,4 +6,4 @@ use Rattle.post.proofs.made.no_chains.Goals as goal
 pub returns : goal.returns
 returns c =
     let made = c.in_ok-heads.ensures in
-    (made.len, subst NoLetters (sym (made.items-if-clones-equal (λ y e. e))) (no_letters c.args.size))
+    (made.len, subst NoLetters (sym (made.items_if_clones_equal (λ y e. e))) (no_letters c.args.size))

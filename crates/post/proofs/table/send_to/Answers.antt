@@ -12,5 +12,5 @@ returns c =
     record {
       answer = sym (cond-true (mark_in v.len k) _ _ on);
       len = refl;
-      after = sent_kept v c.deref-mut.result.now c.put.new.table k (c.put.auto.table ∙ c.deref-mut.ensures.len) c.deref-mut.ensures.value c.put.ensures on;
+      after = sent_kept v c.deref_mut.result.now c.put.new.table k (c.put.auto.table ∙ c.deref_mut.ensures.len) c.deref_mut.ensures.value c.put.ensures on;
     }

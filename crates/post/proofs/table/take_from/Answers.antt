@@ -7,14 +7,14 @@ use Rattle.post.proofs.table.take_from.Goals as goal
 pub clear-requires : goal.clear-requires
 clear-requires c =
     let k = c.in_ok-mark.mark in
-    let on = ap (λ t. holds (kept t) k) (c.deref-mut.ensures.value ∙ sym c.deref.ensures.value) ∙ c.in_ok-mark.ensures.1 in
-    record { mark = kept_marks c.deref-mut.result.now k.block k.entry k.level on; kept = on }
+    let on = ap (λ t. holds (kept t) k) (c.deref_mut.ensures.value ∙ sym c.deref.ensures.value) ∙ c.in_ok-mark.ensures.1 in
+    record { mark = kept_marks c.deref_mut.result.now k.block k.entry k.level on; kept = on }
 
 pub returns : goal.returns
 returns c =
     let k = c.in_ok-mark.mark in
     let found = c.in_ok-mark.ensures in
-    let lent = c.deref-mut.ensures in
+    let lent = c.deref_mut.ensures in
     record {
       len = refl;
       taken = (

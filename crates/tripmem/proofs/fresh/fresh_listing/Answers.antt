@@ -21,5 +21,5 @@ front text out out' tail n m answer after long =
 pub returns : goal.returns
 returns c =
     c.truncate.ensures.items
-    ∙ front (listing c.deref.result.now) c.deref-mut.result.now c.write_listing.new.out _ c.in-Ok.length _ c.in-Ok.ensures.answer c.in-Ok.ensures.after c.deref-mut.ensures.len
+    ∙ front (listing c.deref.result.now) c.deref_mut.result.now c.write_listing.new.out _ c.in-Ok.length _ c.in-Ok.ensures.answer c.in-Ok.ensures.after c.deref_mut.ensures.len
     ∙ ap listing (c.deref.ensures.value ∙ c.in_ok-rows.ensures)

@@ -10,4 +10,4 @@ pub loop-k-preserved : goal.loop-k-preserved
 loop-k-preserved c =
     let areas = vec_items c.args.self.now.areas in
     let e : c.loop-k.k + 1 - 1 ≡ c.loop-k.k = omega arith in
-    c.parent_over.ensures ∙ ap (parent_of areas) c.loop-k.invariant ∙ sym (climb_more areas c.loop-k.k c.args.i c.loop-k.auto.k) ∙ ap (λ k. climb (parent_of areas) k c.args.i) (sym e)
+    c.parent-over.ensures ∙ ap (parent_of areas) c.loop-k.invariant ∙ sym (climb_more areas c.loop-k.k c.args.i c.loop-k.auto.k) ∙ ap (λ k. climb (parent_of areas) k c.args.i) (sym e)
