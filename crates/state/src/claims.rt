@@ -5,7 +5,7 @@ ghost use Rattle.state.specs.Scenarios.{ScenariosComeOut, FurtherScenariosComeOu
 
 /// The worked scenarios on the sample plan come out as they should.
 pub fn scenarios_come_out()
-    ensures scenarios_come_out { ScenariosComeOut }
+    ensures worked { ScenariosComeOut }
     ensures further { FurtherScenariosComeOut }
 {}
 
