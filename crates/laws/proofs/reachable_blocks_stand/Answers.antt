@@ -1,4 +1,4 @@
-use Rattle.laws.proofs.Stands.{kept_blocks_stand}
+use Rattle.laws.proofs.Stand.{reachable_blocks_stand}
 use Rattle.laws.proofs.reachable_blocks_stand.Goals as goal
 
 pub returns : goal.returns
