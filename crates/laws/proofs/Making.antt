@@ -25,7 +25,7 @@ use Rattle.state.specs.Memory.{World, free_slot, new_collector, block_at, collec
 use Rattle.state.specs.Calls.{fresh, any_waits, made}
 use Rattle.state.specs.Pasts.{Points, MarksOf}
 use Rattle.laws.specs.Roots.{Root, from_register, on_hold, Reach, root, step}
-use Rattle.laws.specs.Views.{Shape, white_in, black_in, white, stage, status, sends}
+use Rattle.laws.specs.Views.{Shape, white_in, black_in, white, stage, status}
 use Rattle.laws.specs.Invariant.{FreeChain, HasCovered, has_ended_round, pass_over}
 use Rattle.laws.specs.Inductive.{Sound, Safe, Inductive}
 use Rattle.laws.proofs.Plans.{low_numbered, low_first, within_bounds, within_first, within_numbered, within_from}

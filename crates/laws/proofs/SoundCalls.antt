@@ -1,5 +1,5 @@
 -- Every call keeps the tables of a memory sound.
-use Rattle.std.proofs.Common.{◌≡◌, ℕ, ◌-◌, ◌<◌, ◌≤◌, true, eqb, leb, subst}
+use Rattle.std.proofs.Common.{◌≡◌, ℕ, ◌<◌, ◌≤◌, true, eqb, leb, subst}
 use Rattle.std.proofs.lemmas.Bool.{cond_both, leb-true, ltb-true}
 use Rattle.chain.specs.Chain.{numbered}
 use Rattle.state.specs.declared.word.Word.{Word}

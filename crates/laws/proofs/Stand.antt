@@ -1,10 +1,10 @@
 -- Where the invariant holds, no call recovers a reachable block.
-use Rattle.std.proofs.Common.{◌≡◌, ℕ, ◌≤◌, true, false, leb, is_some, sym, refl, ap, ◌∙◌, subst, ⊎_elim, arith}
+use Rattle.std.proofs.Common.{◌≡◌, ℕ, ◌≤◌, true, is_some, sym, ap, ◌∙◌, subst, ⊎_elim, arith}
 use Rattle.std.proofs.lemmas.Bool.{false≢true, and_from, le-leb}
-use Rattle.chain.specs.Chain.{place, numbered}
+use Rattle.chain.specs.Chain.{numbered}
 use Rattle.chain.proofs.Chains.{numbered_parts}
 use Rattle.state.specs.Layout.{Layout, slot_count, first_in, last_of, within}
-use Rattle.state.specs.Memory.{World, block_at}
+use Rattle.state.specs.Memory.{World}
 use Rattle.state.specs.Calls.{answered}
 use Rattle.state.specs.Pasts.{Reach, root, step}
 use Rattle.laws.specs.Views.{white}

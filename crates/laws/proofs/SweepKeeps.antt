@@ -1,5 +1,5 @@
 -- A turn in the sweep keeps what the invariant says of blocks, marks and rounds.
-use Rattle.std.proofs.Common.{◌≡◌, ℕ, ◌+◌, ◌<◌, ◌≤◌, true, false, ◌||◌, leb, ◌⊎◌, Some, None, Option, sym, refl, ap, ◌∙◌, subst, inl, inr, ⊎_elim, arith}
+use Rattle.std.proofs.Common.{◌≡◌, ℕ, ◌+◌, ◌<◌, ◌≤◌, true, false, ◌||◌, leb, Some, None, Option, sym, refl, ap, ◌∙◌, subst, inl, inr, ⊎_elim, arith}
 use Rattle.std.proofs.lemmas.Bool.{cases_Bool, cases_eq, cases_lt, and_from, le-leb, leb-false, cond_both}
 use Rattle.state.specs.declared.block.Block.{Block}
 use Rattle.state.specs.declared.collector.Stage.TheVariants.{Resting, Pass, Sweep}

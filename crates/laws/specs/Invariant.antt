@@ -1,5 +1,5 @@
 -- The invariant of a memory and the marks that wait for it, clause by clause.
-use Rattle.std.specs.Prelude.{◌≡◌, ℕ, ◌+◌, ◌<◌, ◌≤◌, Bool, true, false, ◌⊎◌, List, map, is_some, ◌≢◌}
+use Rattle.std.specs.Prelude.{◌≡◌, ℕ, ◌<◌, ◌≤◌, true, false, ◌⊎◌, List, map, is_some, ◌≢◌}
 use Rattle.chain.specs.Chain.{numbered, Chain, among}
 use Rattle.state.specs.declared.collector.Stage.TheVariants.{Resting, Pass, Sweep}
 use Rattle.state.specs.declared.collector.Status.TheVariants.{Unstarted, Begun, Ended}

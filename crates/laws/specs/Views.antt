@@ -1,16 +1,12 @@
 -- What the invariant reads of a memory.
-use Rattle.std.specs.Prelude.{◌≡◌, ℕ, ◌+◌, ◌<◌, ◌≤◌, Bool, true, false, ◌||◌, List, map, length, Some, None, Option}
-use Rattle.std.specs.List.{AllByRecursion as All}
-use Rattle.post.specs.Marks.{Waits}
+use Rattle.std.specs.Prelude.{◌≡◌, ℕ, ◌≤◌, Bool, true, false, ◌||◌, length, Some, None, Option}
 use Rattle.state.specs.declared.block.Block.{Block}
 use Rattle.state.specs.declared.block.Entry.{Entry}
 use Rattle.state.specs.declared.block.Colour.{Colour}
 use Rattle.state.specs.declared.block.Colour.TheVariants.{White, Grey, Black}
-use Rattle.state.specs.declared.slot.Slot.{Slot}
-use Rattle.state.specs.declared.collector.Collector.{Collector}
 use Rattle.state.specs.declared.collector.Stage.{Stage}
 use Rattle.state.specs.declared.collector.Status.{Status}
-use Rattle.state.specs.Layout.{Layout, top, slot_count, above}
+use Rattle.state.specs.Layout.{Layout, slot_count, above}
 use Rattle.state.specs.Blocks.{points_to, is_white, has_entry, marked}
 use Rattle.state.specs.Memory.{Memory, World, block_at, collector_at, phase_at, status_at, sends_at, is_marking}
 

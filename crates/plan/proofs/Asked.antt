@@ -1,7 +1,7 @@
 -- What an accepted plan's tables hold.
-use Rattle.std.proofs.Common.{◌≡◌, ℕ, zero, suc, ◌+◌, ◌-◌, ◌<◌, ◌≤◌, Bool, true, false, cond, ◌&&◌, eqb, List, [], ◌∷◌, ◌++◌, map, length, get_or, replicate, Some, None, sum_by, Option, unwrap_or, sym, refl, ap, ◌∙◌, subst, add-one, arith}
-use Rattle.std.specs.List.{range_with_len, flat_map, AllByRecursion as All}
-use Rattle.std.proofs.lemmas.List.FromFn.{length-map-range_with_len, get_or-map-range_with_len}
+use Rattle.std.proofs.Common.{◌≡◌, ℕ, zero, suc, ◌+◌, ◌-◌, ◌≤◌, true, false, eqb, List, [], ◌∷◌, ◌++◌, length, get_or, replicate, None, sum_by, Option, unwrap_or, sym, refl, ap, ◌∙◌, subst, add-one, arith}
+use Rattle.std.specs.List.{AllByRecursion as All}
+use Rattle.std.proofs.lemmas.List.FromFn.{get_or-map-range_with_len}
 use Rattle.std.proofs.ByRecursion.{All-append, All-weaker}
 use Rattle.std.proofs.lemmas.List.{length-append, length-replicate}
 use Rattle.std.proofs.lemmas.List.Sums.{sum_by-cons, sum_by-append}
@@ -10,7 +10,7 @@ use Rattle.chain.specs.Chain.{place, numbered}
 use Rattle.chain.proofs.Chains.{numbered_parts, place_within}
 use Rattle.plan.specs.declared.area.Area.{Area}
 use Rattle.plan.specs.declared.area.Place.{Place}
-use Rattle.plan.specs.Plans.{slot_count, place_of, places_of, homes_of, parent_of, climb, meet_from}
+use Rattle.plan.specs.Plans.{slot_count, place_of, places_of, parent_of, climb, meet_from}
 use Rattle.plan.specs.Tree.{nowhere, only_place, place_in, homes_in, unmet}
 use Rattle.plan.specs.Walk.{area_at, along, walk_from, walk_of, slots_in}
 use Rattle.plan.proofs.Walks.{walk_numbered}

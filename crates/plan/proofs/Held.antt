@@ -1,12 +1,12 @@
 -- What the tables of a plan's value hold.
-use Rattle.std.proofs.Common.{◌≡◌, ℕ, ◌+◌, ◌<◌, ◌≤◌, true, cond, length, get_or, Some, None, vec_items, vec_len, sym, refl, ap, ◌∙◌, subst, arith}
+use Rattle.std.proofs.Common.{◌≡◌, ℕ, ◌+◌, ◌≤◌, true, cond, length, get_or, Some, None, vec_items, vec_len, sym, refl, ap, ◌∙◌, subst, arith}
 use Rattle.std.proofs.lemmas.List.FromFn.{length-map-range_with_len}
 use Rattle.chain.specs.Chain.{place, numbered}
 use Rattle.chain.proofs.Chains.{numbered_parts}
 use Rattle.plan.specs.declared.accepted.Plan.{Plan}
 use Rattle.plan.specs.declared.area.Place.{Place}
 use Rattle.plan.specs.declared.area.Slots.{Slots}
-use Rattle.plan.specs.Plans.{slot_count, slots_of, place_of, places_of, homes_of}
+use Rattle.plan.specs.Plans.{slot_count, slots_of, place_of, places_of}
 use Rattle.plan.specs.Walk.{walk_of}
 use Rattle.plan.proofs.Conds.{some_from_lem}
 use Rattle.plan.proofs.Rules.{plan_rules}

@@ -1,13 +1,13 @@
 -- What a walk from nothing tells of the whole plan.
-use Rattle.std.proofs.Common.{◌≡◌, ℕ, ◌<◌, ◌≤◌, Bool, true, false, eqb, leb, List, [], length, Ok, Err, sym, refl, ap, ◌∙◌, subst}
+use Rattle.std.proofs.Common.{◌≡◌, ℕ, ◌<◌, ◌≤◌, true, false, eqb, leb, List, [], length, Ok, Err, sym, ap, ◌∙◌, subst}
 use Rattle.std.specs.List.{AllByRecursion as All}
-use Rattle.std.proofs.lemmas.Bool.{eq-eqb, ne_eqb, and_left, and_right, and_from, cond-true, cond-false}
+use Rattle.std.proofs.lemmas.Bool.{eq-eqb, and_left, and_right, and_from, cond-true, cond-false}
 use Rattle.chain.specs.Chain.{numbered}
 use Rattle.plan.specs.declared.area.Area.{Area}
 use Rattle.plan.specs.declared.area.Place.{Place}
 use Rattle.plan.specs.declared.refusal.Refusal.TheVariants.{NotATree}
 use Rattle.plan.specs.Tree.{every, fits, order_of}
-use Rattle.plan.specs.Walk.{area_at, walk_of, Walked, slots_in}
+use Rattle.plan.specs.Walk.{area_at, walk_of, Walked}
 use Rattle.plan.proofs.Walks.{walked_all, walked_over, walk_numbered}
 
 module _ (areas : List Area) (none order : List Place) (slots : ℕ) (empty : none ≡ []) (w : Walked areas (walk_of areas) 0 none [] slots order) where

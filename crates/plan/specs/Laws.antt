@@ -1,5 +1,5 @@
 -- What the tree says of slots and of the areas over an area.
-use Rattle.std.specs.Prelude.{◌≡◌, ℕ, ◌+◌, ◌<◌, ◌≤◌, Bool, true, ◌⊎◌, List, [], ◌∷◌, map, length, ◌≢◌}
+use Rattle.std.specs.Prelude.{◌≡◌, ℕ, ◌+◌, ◌<◌, ◌≤◌, true, List, [], ◌∷◌, map, length, ◌≢◌}
 use Rattle.chain.specs.Chain.{numbered, Chain, among}
 use Rattle.plan.specs.declared.area.Area.{Area}
 use Rattle.plan.specs.Walk.{area_at}

@@ -1,5 +1,5 @@
 -- What a plan is a picture of: a tree of areas.
-use Rattle.std.specs.Prelude.{◌≡◌, ℕ, suc, ◌*◌, ◌≤◌, Bool, true, List, [], ◌∷◌, ◌++◌, length, Ok, sum_by, count_by, nat_eq}
+use Rattle.std.specs.Prelude.{◌≡◌, ℕ, suc, ◌*◌, ◌≤◌, true, List, [], ◌∷◌, ◌++◌, length, Ok, sum_by, count_by, nat_eq}
 use Rattle.chain.specs.Chain.{numbered}
 use Rattle.plan.specs.declared.area.Area.{Area}
 use Rattle.plan.specs.Walk.{area_at}

@@ -1,5 +1,5 @@
 -- The walk of the area tree: it takes an area, then all that stands below its child, then its next.
-use Rattle.std.specs.Prelude.{◌≡◌, ℕ, zero, suc, ◌+◌, ◌*◌, ◌<◌, ◌≤◌, Bool, true, false, cond, ◌&&◌, List, [], ◌∷◌, ◌++◌, length, sum_by, slice_index_or}
+use Rattle.std.specs.Prelude.{◌≡◌, ℕ, zero, suc, ◌+◌, ◌*◌, ◌<◌, ◌≤◌, cond, List, [], ◌∷◌, ◌++◌, length, sum_by, slice_index_or}
 use Rattle.chain.specs.Chain.{place, numbered}
 use Rattle.plan.specs.declared.area.Area.{Area}
 use Rattle.plan.specs.declared.area.Place.{Place}

@@ -1,5 +1,5 @@
 -- The order of the takes does not matter.
-use Rattle.std.proofs.Common.{◌≡◌, ℕ, List, [], ◌∷◌, sym, refl, ap, ◌∙◌}
+use Rattle.std.proofs.Common.{◌≡◌, ℕ, List, [], ◌∷◌, sym, ap, ◌∙◌}
 use Rattle.post.specs.Marks.{Waits, inside, outside, either}
 use Rattle.post.specs.Orders.{Run, Whole, handed, AnyOrder}
 use Rattle.post.specs.declared.Mark.{Mark}

@@ -1,5 +1,5 @@
 -- A plan's laws, read off the tables of its layout.
-use Rattle.std.proofs.Common.{◌≡◌, ℕ, zero, suc, ◌+◌, ◌-◌, ◌<◌, ◌≤◌, Bool, true, false, cond, eqb, leb, List, length, get_or, sym, refl, ap, ◌∙◌, subst, ⊎_elim, arith}
+use Rattle.std.proofs.Common.{◌≡◌, ℕ, zero, suc, ◌+◌, ◌-◌, ◌<◌, ◌≤◌, true, false, eqb, leb, List, length, get_or, sym, ap, ◌∙◌, subst, ⊎_elim, arith}
 use mathlib.Core.Path.{fun_ext}
 use Rattle.std.proofs.lemmas.List.FromFn.{length-map-range_with_len}
 use Rattle.std.proofs.lemmas.List.{get_or_past}
@@ -11,14 +11,13 @@ use Rattle.plan.specs.declared.area.Place.{Place}
 use Rattle.plan.specs.Laws.{TreeLaws}
 use Rattle.plan.specs.Plans as plans
 use Rattle.plan.specs.Plans.{is_plan, place_of, places_of, homes_of, slots_of, home_of, is_lowest, top_level, parent_of, climb, meet_from, area_over, common_level}
-use Rattle.plan.specs.Reading.{slots_right}
 use Rattle.plan.specs.Tree.{nowhere}
 use Rattle.plan.specs.Walk.{area_at, walk_of}
 use Rattle.plan.proofs.Asked.{length_homes, place_read, no_parent, place_within_plan, climb_none}
 use Rattle.plan.proofs.Climbs.{top_parent}
 use Rattle.plan.proofs.Rules.{plan_rules}
 use Rattle.plan.proofs.TreeLaws.{tree_laws}
-use Rattle.state.specs.Layout.{Layout, layout_of, top, slot_count, lowest, first_in, last_of, within, home, above, level_of}
+use Rattle.state.specs.Layout.{Layout, layout_of, slot_count, lowest, first_in, last_of, within, home, above, level_of}
 use Rattle.state.specs.Lawful.{Lawful, Together, LayoutsAreLawful}
 
 module _ (areas : List Area) (plan : is_plan areas ≡ true) where

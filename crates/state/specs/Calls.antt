@@ -1,15 +1,11 @@
 -- What each message, hold and return does and answers, and the making. A refusal answers the world that it was given.
-use Rattle.std.specs.Prelude.{ℕ, zero, suc, ◌+◌, ◌-◌, Bool, true, false, cond, not, ◌&&◌, ◌||◌, List, [], ◌∷◌, length, replicate, Some, None, Ok, Err, Option, Result, ◌==◌, nat_le, nat_lt, slice_set}
+use Rattle.std.specs.Prelude.{ℕ, ◌+◌, Bool, cond, not, ◌&&◌, ◌||◌, List, Some, None, Ok, Err, Option, Result, ◌==◌, nat_le, nat_lt, slice_set}
 use Rattle.std.specs.List.{range_with_len}
-use Rattle.chain.specs.Chain.{place, numbered}
+use Rattle.chain.specs.Chain.{place}
 use Rattle.post.specs.Marks.{Waits}
 use Rattle.state.specs.declared.word.Word.{Word}
 use Rattle.state.specs.declared.word.Word.TheVariants.{Number, Pointer}
 use Rattle.state.specs.declared.block.Block.{Block}
-use Rattle.state.specs.declared.slot.Slot.{Slot}
-use Rattle.state.specs.declared.collector.Collector.{Collector}
-use Rattle.state.specs.declared.collector.Stage.TheVariants.{Resting}
-use Rattle.state.specs.declared.collector.Status.TheVariants.{Unstarted}
 use Rattle.state.specs.declared.collector.Phase.TheVariants.{Marking}
 use Rattle.state.specs.declared.message.Message.{Message}
 use Rattle.state.specs.declared.message.Message.TheVariants as messages

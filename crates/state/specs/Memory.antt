@@ -1,5 +1,5 @@
 -- The memory: slots, registers, the lowest areas' collectors and the phases of the areas above.
-use Rattle.std.specs.Prelude.{ℕ, ◌+◌, Bool, true, false, cond, ◌&&◌, ◌||◌, List, length, get_or, set, replicate, is_some, Some, None, Option, ◌==◌, slice_index_or, slice_set}
+use Rattle.std.specs.Prelude.{ℕ, Bool, true, false, cond, List, get_or, replicate, Some, None, Option, ◌==◌, slice_index_or, slice_set}
 use Rattle.chain.specs.Chain.{place}
 use Rattle.post.specs.Marks.{Waits}
 use Rattle.state.specs.declared.word.Word.{Word}
@@ -14,7 +14,7 @@ use Rattle.state.specs.declared.collector.Phase.{Phase}
 use Rattle.state.specs.declared.collector.Phase.TheVariants.{Marking, Recovering}
 use Rattle.state.specs.Tables.{map_from, some_from}
 use Rattle.state.specs.Layout.{Layout, within}
-use Rattle.state.specs.Blocks.{level_place, is_pointer_to, is_grey}
+use Rattle.state.specs.Blocks.{level_place, is_pointer_to}
 
 -- Slots by number; registers; collectors and phases by area number. Of a lowest area just the collector is used, of another just the phase.
 pub record Memory : Type 0 where

@@ -1,5 +1,5 @@
 -- Messages: what eight bytes ask for.
-use Rattle.std.specs.Prelude.{ℕ, ◌+◌, ◌*◌, Bool, true, false, cond, not, ◌&&◌, ◌||◌, List, length, Some, None, Ok, Err, Option, Result, ◌==◌, slice_index}
+use Rattle.std.specs.Prelude.{ℕ, ◌+◌, ◌*◌, cond, ◌&&◌, List, length, Ok, Err, Result, ◌==◌, slice_index}
 use Rattle.state.specs.declared.message.Message.{Message}
 use Rattle.state.specs.declared.message.Message.TheVariants.{Make, Write, Number, Read, Copy, Turn}
 use Rattle.state.specs.declared.refusal.Refusal.{Refusal}

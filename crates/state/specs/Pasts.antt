@@ -1,5 +1,5 @@
 -- Pasts of a memory and its post, and what can happen in them.
-use Rattle.std.specs.Prelude.{◌≡◌, ℕ, zero, suc, ◌+◌, ◌<◌, ◌≤◌, Bool, true, false, cond, not, ◌&&◌, ◌||◌, List, [], ◌∷◌, ◌++◌, length, Some, None, Ok, Err, count_by, Option, nat_eq, nat_lt}
+use Rattle.std.specs.Prelude.{◌≡◌, ℕ, suc, ◌+◌, ◌<◌, Bool, true, false, cond, not, ◌&&◌, ◌||◌, List, [], ◌∷◌, ◌++◌, length, Some, None, Ok, count_by, nat_eq, nat_lt}
 use Rattle.post.specs.Marks.{Waits, is_mark}
 use Rattle.state.specs.declared.word.Word.TheVariants.{Pointer}
 use Rattle.state.specs.declared.block.Block.{Block}
@@ -9,7 +9,7 @@ use Rattle.state.specs.Registers.{is_register, held}
 use Rattle.state.specs.Layout.{Layout, lowest}
 use Rattle.state.specs.Blocks.{word_at}
 use Rattle.state.specs.Memory.{Memory, World, block_at, collector_at, phase_at, is_marking}
-use Rattle.state.specs.Calls.{Call, message, answered, made, turns}
+use Rattle.state.specs.Calls.{Call, answered, made, turns}
 
 -- Reachable
 

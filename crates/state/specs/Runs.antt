@@ -1,5 +1,5 @@
 -- A run over bytes, and the figures of the listing.
-use Rattle.std.specs.Prelude.{ℕ, zero, suc, ◌+◌, ◌-◌, ◌/◌, Bool, cond, ◌&&◌, List, [], ◌∷◌, map, length, take, drop, is_some, is_ok, Ok, Err, Result, nat_le}
+use Rattle.std.specs.Prelude.{ℕ, zero, suc, ◌+◌, ◌-◌, ◌/◌, cond, ◌&&◌, List, [], ◌∷◌, map, length, take, drop, is_some, is_ok, Ok, Err, Result, nat_le}
 use Rattle.std.specs.List.{range_with_len}
 use Rattle.listing.specs.declared.Row.{Row}
 use Rattle.plan.specs.Walk.{area_at}

@@ -1,5 +1,5 @@
 -- Worked scenarios on the sample plan, computed with the rules.
-use Rattle.std.specs.Prelude.{◌≡◌, ℕ, zero, suc, ◌+◌, Bool, true, false, cond, List, [], ◌∷◌, ◌++◌, replicate, is_some, Some, None, Ok, Err, codes, Option, Result}
+use Rattle.std.specs.Prelude.{◌≡◌, ℕ, zero, suc, Bool, true, false, List, [], ◌∷◌, ◌++◌, replicate, is_some, Some, None, Ok, Err, codes, Option, Result}
 use Rattle.std.specs.Option.{unwrap_or}
 use Rattle.std.specs.List.{AllByRecursion as All}
 use Rattle.plan.specs.declared.area.Area.{Area}
@@ -14,10 +14,10 @@ use Rattle.state.specs.Refusals.{refusal_number}
 use Rattle.state.specs.Blocks.{points_to}
 use Rattle.state.specs.Layout.{Layout, layout_of}
 use Rattle.state.specs.Memory.{World, block_at}
-use Rattle.state.specs.Calls.{Call, message, hold, return, Outcome, answered, fresh, turns}
+use Rattle.state.specs.Calls.{Call, message, hold, return, answered, fresh, turns}
 use Rattle.state.specs.Turns.{clear_at}
 use Rattle.state.specs.Runs.{Tally, runs, rows_of}
-use Rattle.state.specs.Pasts.{marking, round_ends, times, turns_done}
+use Rattle.state.specs.Pasts.{marking, round_ends, times}
 
 -- A scenario: what the rules compute, and what should come out.
 pub record Scenario : Type 0 where

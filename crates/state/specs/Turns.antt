@@ -1,10 +1,9 @@
 -- What a turn of a lowest area's collector does, by its stage and by what it finds.
-use Rattle.std.specs.Prelude.{ℕ, zero, suc, ◌+◌, ◌-◌, Bool, true, false, cond, not, ◌&&◌, ◌||◌, List, [], ◌∷◌, set, replicate, is_some, Some, None, Option, ◌==◌, nat_le, nat_lt, slice_set}
+use Rattle.std.specs.Prelude.{ℕ, zero, suc, ◌+◌, ◌-◌, Bool, true, false, cond, not, ◌&&◌, ◌||◌, List, [], ◌∷◌, is_some, Some, None, Option, ◌==◌, nat_le, nat_lt, slice_set}
 use Rattle.chain.specs.Chain.{place}
 use Rattle.post.specs.Marks.{Waits}
 use Rattle.state.specs.declared.block.Block.{Block}
-use Rattle.state.specs.declared.block.Colour.{Colour}
-use Rattle.state.specs.declared.block.Colour.TheVariants.{White, Grey, Black}
+use Rattle.state.specs.declared.block.Colour.TheVariants.{White, Black}
 use Rattle.state.specs.declared.slot.Slot.{Slot}
 use Rattle.state.specs.declared.collector.Collector.{Collector}
 use Rattle.state.specs.declared.collector.Stage.{Stage}

@@ -1,13 +1,12 @@
-use Rattle.std.proofs.Common.{◌≡◌, ℕ, true, cond, List, map, length, Ok, Err, vec_items, sym, refl, ap, ◌∙◌, subst, arith}
+use Rattle.std.proofs.Common.{◌≡◌, ℕ, true, cond, List, map, length, Ok, Err, vec_items, sym, ap, ◌∙◌, subst}
 use Rattle.std.specs.List.{range_with_len, AllByRecursion as All}
 use Rattle.std.proofs.lemmas.Result.{err_from_is_err_and}
 use Rattle.chain.specs.Chain.{numbered}
 use Rattle.plan.specs.declared.area.Area.{Area}
 use Rattle.plan.specs.declared.area.Place.{Place}
 use Rattle.plan.specs.declared.refusal.Refusal.TheVariants.{NotATree}
-use Rattle.plan.specs.Plans.{tables_if, tables_of, places_of, homes_of}
+use Rattle.plan.specs.Plans.{tables_if, places_of, homes_of}
 use Rattle.plan.specs.Tree.{order_of, homes_in, place_in}
-use Rattle.plan.specs.Walk.{walk_of}
 use Rattle.plan.proofs.Parts.{placed, handed_on, order_refused, order_told, places_refused, places_told, slots_refused, total_refused, plan_read, tables_refused}
 use Rattle.plan.proofs.Walks.{walk_numbered}
 use Rattle.plan.proofs.make.tables.Goals as goal

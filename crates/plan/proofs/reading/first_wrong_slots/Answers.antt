@@ -1,4 +1,4 @@
-use Rattle.std.proofs.Common.{◌≡◌, ℕ, ◌+◌, ◌-◌, Bool, true, false, sym, ap, ◌∙◌, arith}
+use Rattle.std.proofs.Common.{◌≡◌, ℕ, ◌+◌, ◌-◌, Bool, true, false, sym, ◌∙◌, arith}
 use Rattle.plan.specs.Reading.{slots_right}
 use Rattle.plan.specs.Walk.{area_at}
 use Rattle.plan.proofs.Firsts.{wrong_here, wrong_more}

@@ -1,4 +1,4 @@
-use Rattle.std.proofs.Common.{◌≡◌, ℕ, ◌+◌, ◌-◌, Bool, true, false, sym, ap, ◌∙◌, arith}
+use Rattle.std.proofs.Common.{◌+◌, ap, ◌∙◌, arith}
 use Rattle.plan.specs.Reading.{record_in_range, area_of, records_read}
 use Rattle.plan.proofs.Conds.{none_from, some_from_lem}
 use Rattle.plan.proofs.Firsts.{wrong_here, wrong_more, count_push}

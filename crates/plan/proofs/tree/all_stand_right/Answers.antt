@@ -1,4 +1,4 @@
-use Rattle.std.proofs.Common.{◌≡◌, true, length, sym, ap, ◌∙◌, arith}
+use Rattle.std.proofs.Common.{◌≡◌, true, length, sym, ◌∙◌}
 use Rattle.std.proofs.ByRecursion.{All-get_or}
 use Rattle.chain.specs.Chain.{numbered}
 use Rattle.plan.specs.Tree.{fits}

@@ -1,4 +1,4 @@
-use Rattle.std.proofs.Common.{◌≡◌, [], ◌∷◌, ◌++◌, replicate, vec_items, sym, ap, ◌∙◌}
+use Rattle.std.proofs.Common.{[], ◌∷◌, ◌++◌, replicate, vec_items, ap, ◌∙◌}
 use Rattle.std.proofs.lemmas.List.{append_assoc, replicate_more}
 use Rattle.plan.proofs.tree.push_home.Goals as goal
 

@@ -1,4 +1,4 @@
-use Rattle.std.proofs.Common.{◌≡◌, ◌+◌, length, vec_items, sym, ap, ◌∙◌}
+use Rattle.std.proofs.Common.{◌+◌, length, vec_items}
 use Rattle.chain.specs.Chain.{numbered}
 use Rattle.plan.proofs.Conds.{some_from_lem}
 use Rattle.plan.proofs.Firsts.{count_push}

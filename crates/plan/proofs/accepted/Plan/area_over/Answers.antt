@@ -1,4 +1,4 @@
-use Rattle.std.proofs.Common.{◌≡◌, ◌+◌, ◌-◌, vec_items, sym, ap, ◌∙◌, subst, arith}
+use Rattle.std.proofs.Common.{◌≡◌, ◌+◌, ◌-◌, vec_items, sym, ap, ◌∙◌, arith}
 use Rattle.plan.specs.Plans.{climb, parent_of}
 use Rattle.plan.proofs.Asked.{climb_none, climb_more}
 use Rattle.plan.proofs.accepted.Plan.area_over.Goals as goal

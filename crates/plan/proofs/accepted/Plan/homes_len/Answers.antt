@@ -1,4 +1,4 @@
-use Rattle.std.proofs.Common.{◌≡◌, ◌≤◌, sym, ◌∙◌, subst, arith}
+use Rattle.std.proofs.Common.{◌∙◌, arith}
 use Rattle.plan.proofs.Held.{slots_few, homes_count}
 use Rattle.plan.proofs.accepted.Plan.homes_len.Goals as goal
 

@@ -1,4 +1,4 @@
-use Rattle.std.proofs.Common.{◌≡◌, false, length, vec_items, sym, ap, ◌∙◌}
+use Rattle.std.proofs.Common.{length, vec_items, sym, ap}
 use Rattle.chain.specs.Chain.{numbered}
 use Rattle.plan.specs.declared.area.Place.{Place}
 use Rattle.plan.specs.Plans.{place_of}

@@ -1,10 +1,10 @@
-use Rattle.std.proofs.Common.{◌≡◌, ◌/◌, true, false, length, IfOk, Ok, Err, vec_items, Result, sym, refl, ap, ◌∙◌, subst, ⊎_elim, arith}
+use Rattle.std.proofs.Common.{◌≡◌, ◌/◌, true, false, length, IfOk, Ok, Err, vec_items, Result, sym, subst, arith}
 use Rattle.std.proofs.lemmas.Result.{err_from_is_err_and, IfOk-from_err}
 use Rattle.std.proofs.lemmas.Bool.Decides.{nat_tests}
 use Rattle.plan.specs.declared.accepted.Plan.{Plan}
 use Rattle.plan.specs.Answers.{Answers}
 use Rattle.plan.specs.Laws.{TreeLaws}
-use Rattle.plan.specs.Reading.{good_length, read_records, read_plan}
+use Rattle.plan.specs.Reading.{good_length, read_records}
 use Rattle.plan.proofs.Parts.{handed_on, length_refused, records_refused, read_on, few_told, range_told}
 use Rattle.plan.proofs.TreeLaws.{tree_laws}
 use Rattle.plan.proofs.Trees.{accepted_exactly_trees}
