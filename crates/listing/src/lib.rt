@@ -225,6 +225,6 @@ mod tests {
         };
         let mut out = [0; 38];
         assert_eq!(rt; write_listing(&[row], &mut out), Ok(38));
-        assert!(rt; &out[0..38] == b"area 1024 level 255 used 65535 free 0\n");
+        assert!(rt; &out[0..38] == b"area 1024 level 255 used 65535 free 0\n".as_slice());
     }
 }

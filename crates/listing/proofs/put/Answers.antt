@@ -1,5 +1,5 @@
 use Rattle.std.proofs.Common.{rules}
-use Rattle.std.proofs.lemmas.Slice.{put_mid-paste, overwrites}
+use Rattle.std.proofs.lemmas.Slice.{overwrites}
 use Rattle.listing.specs.Listing.{written}
 use Rattle.listing.proofs.put.Goals as goal
 
