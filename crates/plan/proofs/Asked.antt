@@ -1,6 +1,6 @@
 -- What an accepted plan's tables hold.
 use Rattle.std.proofs.Common.{◌≡◌, ℕ, zero, suc, ◌+◌, ◌-◌, ◌≤◌, true, false, eqb, List, [], ◌∷◌, ◌++◌, length, get_or, replicate, None, sum_by, Option, unwrap_or, sym, refl, ap, ◌∙◌, subst, add-one, arith}
-use Rattle.std.specs.List.{AllByRecursion as All}
+use Rattle.std.specs.List.{AllByRecursion}
 use Rattle.std.proofs.lemmas.List.FromFn.{get_or-map-range_with_len}
 use Rattle.std.proofs.ByRecursion.{All-append, All-weaker}
 use Rattle.std.proofs.lemmas.List.{length-append, length-replicate}
@@ -26,7 +26,7 @@ length_homes areas (p ∷ ps) =
     ∙ sym (sum_by-cons (λ q. (area_at areas q.area).slots) p ps)
 
 -- what holds of each place of a walk, and of none, holds of the place of an area
-pub placed_all : (P : Place → Type 0) → P nowhere → (ps : List Place) → All P ps → (i : ℕ) → P (place_in ps i)
+pub placed_all : (P : Place → Type 0) → P nowhere → (ps : List Place) → AllByRecursion P ps → (i : ℕ) → P (place_in ps i)
 placed_all P none [] a i = none
 placed_all P none (p ∷ ps) a i =
     cond_both (eqb p.area i) _ _ (λ o. P (unwrap_or o nowhere))
@@ -34,7 +34,7 @@ placed_all P none (p ∷ ps) a i =
     (λ _. placed_all P none ps a.1 i)
 
 -- an area that no place is of has none
-pub unplaced : (ps : List Place) (i : ℕ) → All (λ p. p.area ≡ i → ⊥) ps → only_place ps i ≡ None
+pub unplaced : (ps : List Place) (i : ℕ) → AllByRecursion (λ p. p.area ≡ i → ⊥) ps → only_place ps i ≡ None
 unplaced [] i a = refl
 unplaced (p ∷ ps) i a = rw (ne_eqb p.area i a.0) (unplaced ps i a.1)
 
@@ -57,11 +57,11 @@ wider : (a b c d : ℕ) → a ≤ b → c ≤ d → (p : Place) → Within b c p
 wider a b c d l m p w = (omega (arith, w.0), w.1, omega (arith, w.2))
 
 module _ (areas : List Area) where
-  along_within : (below : ℕ → ℕ → ℕ → List Place) (level parent : ℕ) → ((i c b : ℕ) → All (Within b (b + slots_in areas (below i c b))) (below i c b)) → (n i b : ℕ) → All (Within b (b + slots_in areas (along areas below level parent n i b))) (along areas below level parent n i b)
+  along_within : (below : ℕ → ℕ → ℕ → List Place) (level parent : ℕ) → ((i c b : ℕ) → AllByRecursion (Within b (b + slots_in areas (below i c b))) (below i c b)) → (n i b : ℕ) → AllByRecursion (Within b (b + slots_in areas (along areas below level parent n i b))) (along areas below level parent n i b)
   unfolding along
   along_within below level parent h zero i b = tt
   along_within below level parent h (suc n) i b =
-      cond_both (numbered (length areas) i) _ _ (λ ps. All (Within b (b + slots_in areas ps)) ps)
+      cond_both (numbered (length areas) i) _ _ (λ ps. AllByRecursion (Within b (b + slots_in areas ps)) ps)
       (λ _.
       let s = (area_at areas i).slots in
       let inner = below i (area_at areas i).child (b + s) in
@@ -78,7 +78,7 @@ module _ (areas : List Area) where
       ))
       (λ _. tt)
 
-  pub walk_within : (level parent i b : ℕ) → All (Within b (b + slots_in areas (walk_from areas level parent i b))) (walk_from areas level parent i b)
+  pub walk_within : (level parent i b : ℕ) → AllByRecursion (Within b (b + slots_in areas (walk_from areas level parent i b))) (walk_from areas level parent i b)
   unfolding walk_from
   walk_within zero parent i b = tt
   walk_within (suc l) parent i b = along_within (walk_from areas l) (suc l) parent (walk_within l) (length areas + 1) i b

@@ -1,6 +1,6 @@
 -- The areas over a lowest area, up to the top area, and the lowest area of a slot.
 use Rattle.std.proofs.Common.{◌≡◌, ℕ, zero, suc, ◌+◌, ◌-◌, ◌<◌, ◌≤◌, true, false, eqb, List, [], ◌∷◌, ◌++◌, length, get_or, sym, refl, ap, ◌∙◌, subst, ⊎_elim, arith}
-use Rattle.std.specs.List.{ContainsAt as Has, AllByRecursion as All}
+use Rattle.std.specs.List.{ContainsAt as Has, AllByRecursion}
 use Rattle.std.proofs.ByRecursion.{All-weaker, all-has, has_get_or}
 use Rattle.std.proofs.lemmas.List.{append-nil, length-map}
 use Rattle.std.proofs.lemmas.Bool.{cond_both, cond-true, and_parts, and_from, false≢true, eqb-true, eq-eqb, cases_lt}
@@ -141,6 +141,6 @@ module _ (areas : List Area) (plan : is_plan areas ≡ true) where
   top_only x t e =
       let inner = walk_from areas (top_level areas - 1) 1 (area_at areas 1).child (0 + (area_at areas 1).slots) in
       let P : Place → Type 0 = λ q. q.level ≡ top_level areas → q.area ≡ 1 in
-      let lower : All P inner = All-weaker _ P (λ q m z. absurd (omega (arith, m.low, top_high))) inner (walk_met areas (top_level areas - 1) 1 (area_at areas 1).child (0 + (area_at areas 1).slots)) in
-      let all : All P (top_place ∷ inner) = (λ _. refl, lower) in
-      sym (place_area areas plan x t) ∙ all-has P (walk_of areas) (place_of areas x) (subst (All P) (sym top_first) all) (place_met areas plan x t) (place_level areas plan x t ∙ e)
+      let lower : AllByRecursion P inner = All-weaker _ P (λ q m z. absurd (omega (arith, m.low, top_high))) inner (walk_met areas (top_level areas - 1) 1 (area_at areas 1).child (0 + (area_at areas 1).slots)) in
+      let all : AllByRecursion P (top_place ∷ inner) = (λ _. refl, lower) in
+      sym (place_area areas plan x t) ∙ all-has P (walk_of areas) (place_of areas x) (subst (AllByRecursion P) (sym top_first) all) (place_met areas plan x t) (place_level areas plan x t ∙ e)

@@ -1,6 +1,6 @@
 -- How often a number stands in a list.
 use Rattle.std.proofs.Common.{◌≡◌, ℕ, zero, suc, ◌+◌, ◌≤◌, Bool, true, false, cond, ◌&&◌, eqb, leb, List, [], ◌∷◌, map, length, is_some, Some, None, sum_by, count_by, sym, refl, ap, ◌∙◌, subst, ⊎_elim, arith}
-use Rattle.std.specs.List.{AllByRecursion as All}
+use Rattle.std.specs.List.{AllByRecursion}
 use Rattle.std.proofs.lemmas.List.Sums.{sum_by-cons, count_by-le-length}
 use Rattle.std.proofs.lemmas.Bool.{cases_eq, eq-eqb, ne_eqb}
 use Rattle.std.proofs.lemmas.Bool.Decides.{nat_tests}
@@ -27,7 +27,7 @@ times_other i j js ne =
     omega arith
 
 -- what holds of each element holds of a number that is one
-pub all_times : (P : ℕ → Type 0) (ns : List ℕ) (i : ℕ) → All P ns → 1 ≤ times i ns → P i
+pub all_times : (P : ℕ → Type 0) (ns : List ℕ) (i : ℕ) → AllByRecursion P ns → 1 ≤ times i ns → P i
 all_times P [] i a l = absurd (omega arith)
 all_times P (n ∷ ns) i a l =
     ⊎_elim

@@ -1,6 +1,6 @@
 -- The one place of each area of a plan, and what the rules of a plan tell of its record.
 use Rattle.std.proofs.Common.{◌≡◌, ℕ, ◌<◌, ◌≤◌, Bool, true, false, cond, eqb, List, [], ◌∷◌, ◌++◌, length, is_some, Some, None, Option, unwrap_or, sym, refl, ap, ◌∙◌, subst, arith}
-use Rattle.std.specs.List.{range_with_len, ContainsAt as Has, AllByRecursion as All}
+use Rattle.std.specs.List.{range_with_len, ContainsAt as Has, AllByRecursion}
 use Rattle.std.proofs.ByRecursion.{All-weaker, all-has, has_get_or, has_append_right}
 use Rattle.std.proofs.lemmas.Bool.{cond_both, cond-true, cond-false, and_parts, and_from, false≢true, eqb-true, eqb-false, eq-eqb, ne_eqb, leb-true}
 use Rattle.chain.specs.Chain.{numbered}
@@ -37,10 +37,10 @@ only_met (x ∷ ps) i p e =
     (λ t h. let px : p ≡ x = (some_from_lem (unmet ps i) x p (sym h)).1 in (subst (Has (x ∷ ps)) (sym px) (has_get_or (x ∷ ps) 0 x (omega arith)), ap (λ q. q.area) px ∙ eqb-true _ _ t))
     (λ _ h. let r = only_met ps i p h in (has_append_right (x ∷ []) ps p r.0, r.1)) e
 
-only_alone : (ps : List Place) (i : ℕ) (p : Place) → only_place ps i ≡ Some p → All (λ q. q.area ≡ i → q ≡ p) ps
+only_alone : (ps : List Place) (i : ℕ) (p : Place) → only_place ps i ≡ Some p → AllByRecursion (λ q. q.area ≡ i → q ≡ p) ps
 only_alone [] i p e = tt
 only_alone (x ∷ ps) i p e =
-    cond_both (eqb x.area i) _ _ (λ o. o ≡ Some p → All (λ q. q.area ≡ i → q ≡ p) (x ∷ ps))
+    cond_both (eqb x.area i) _ _ (λ o. o ≡ Some p → AllByRecursion (λ q. q.area ≡ i → q ≡ p) (x ∷ ps))
     (λ t h.
     let r = some_from_lem (unmet ps i) x p (sym h) in
     (λ _. sym r.1, All-weaker _ (λ q. q.area ≡ i → q ≡ p) (λ q u a. absurd (unmet_other q i u a)) ps (all_from_test (λ q. cond (eqb q.area i) false true) ps r.0)))
@@ -73,7 +73,7 @@ module _ (areas : List Area) (plan : is_plan areas ≡ true) where
   unfolding is_tree
   placed = and_parts _ _ rules.2
 
-  well_placed_lem : ((area_at areas 1).next ≡ 0) × (length (walk_of areas) ≤ length areas) × All (λ p. fits areas p ≡ true) (walk_of areas)
+  well_placed_lem : ((area_at areas 1).next ≡ 0) × (length (walk_of areas) ≤ length areas) × AllByRecursion (λ p. fits areas p ≡ true) (walk_of areas)
   well_placed_lem =
       let p = and_parts _ _ placed.0 in
       let q = and_parts _ _ p.1 in

@@ -1,6 +1,6 @@
 -- The picture of a tree keeps the rules of a plan.
 use Rattle.std.proofs.Common.{◌≡◌, ℕ, suc, ◌+◌, ◌-◌, ◌<◌, ◌≤◌, true, List, [], ◌∷◌, ◌++◌, length, sum_by, sym, refl, ap, ◌∙◌, subst, arith}
-use Rattle.std.specs.List.{AllByRecursion as All}
+use Rattle.std.specs.List.{AllByRecursion}
 use Rattle.std.proofs.lemmas.List.{append-nil, length-append, map-append, length-map}
 use Rattle.std.proofs.ByRecursion.{All-append}
 use Rattle.std.proofs.lemmas.Bool.{and_from, le-leb, eq-eqb, ne_eqb, cond-true, cond-false}
@@ -33,7 +33,7 @@ chained_level (ends i tree end) = (stands_level tree).1
 chained_level (goes_on i tree row) = (stands_level tree).1
 
 mutual
-  stands_right : {areas : List Area} {l : ℕ} {tree : Tree l} {i : ℕ} {numbers : List ℕ} → Stands areas l tree i numbers → l ≤ 4 → (area_at areas i).next ≤ length areas → All (Right areas) numbers
+  stands_right : {areas : List Area} {l : ℕ} {tree : Tree l} {i : ℕ} {numbers : List ℕ} → Stands areas l tree i numbers → l ≤ 4 → (area_at areas i).next ≤ length areas → AllByRecursion (Right areas) numbers
   stands_right {areas} (as_lowest i t level child least most) high next =
       let slots : slots_right (area_at areas i) ≡ true = cond-true _ _ _ (eq-eqb _ 1 level) ∙ and_from _ _ (le-leb 1 (area_at areas i).slots least) (le-leb (area_at areas i).slots 1024 most) in
       (record { level = omega arith; child = omega arith; next = next; slots = slots }, tt)
@@ -42,14 +42,14 @@ mutual
       let right : slots_right (area_at areas i) ≡ true = cond-false _ _ _ (ne_eqb (area_at areas i).level 1 (λ e. omega arith)) ∙ eq-eqb _ 0 slots in
       (record { level = omega arith; child = (numbered_parts (length areas) _ (chained_numbered row)).1; next = next; slots = right }, chained_right row (omega arith))
 
-  chained_right : {areas : List Area} {l : ℕ} {row : Row l} {i : ℕ} {numbers : List ℕ} → Chained areas l row i numbers → l ≤ 4 → All (Right areas) numbers
+  chained_right : {areas : List Area} {l : ℕ} {row : Row l} {i : ℕ} {numbers : List ℕ} → Chained areas l row i numbers → l ≤ 4 → AllByRecursion (Right areas) numbers
   chained_right {areas} (ends i tree end) high = stands_right tree high (omega arith)
   chained_right {areas} (goes_on {numbers = numbers} {others = others} i tree row) high =
       All-append (Right areas) numbers others (stands_right tree high (numbered_parts (length areas) _ (chained_numbered row)).1) (chained_right row high)
 
 -- the places that a walk meets are those of these numbers, in their order, and fit
 abbrev Meets : List Area → List Place → List ℕ → Type 0
-Meets areas ps numbers = (numbers_of ps ≡ numbers) × All (λ p. fits areas p ≡ true) ps
+Meets areas ps numbers = (numbers_of ps ≡ numbers) × AllByRecursion (λ p. fits areas p ≡ true) ps
 
 meets_append : (areas : List Area) (ps qs : List Place) (ns ms : List ℕ) → Meets areas ps ns → Meets areas qs ms → Meets areas (ps ++ qs) (ns ++ ms)
 meets_append areas ps qs ns ms a b =

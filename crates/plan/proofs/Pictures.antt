@@ -1,6 +1,6 @@
 -- The records of a plan are the picture of a tree.
 use Rattle.std.proofs.Common.{◌≡◌, ℕ, zero, suc, ◌+◌, ◌<◌, ◌≤◌, true, false, leb, List, [], ◌∷◌, ◌++◌, length, sym, refl, ap, ◌∙◌, subst, ⊎_elim, arith}
-use Rattle.std.specs.List.{AllByRecursion as All}
+use Rattle.std.specs.List.{AllByRecursion}
 use Rattle.std.proofs.lemmas.List.{append-nil, length-append, map-append, length-map}
 use Rattle.std.proofs.lemmas.Bool.{cases_Bool, and_parts, leb-true, eqb-true, ne_eqb, both_ways, cond-true, cond-false}
 use Rattle.chain.specs.Chain.{numbered}
@@ -48,7 +48,7 @@ unnumbered : (n i : ℕ) → numbered n i ≡ false → i ≤ n → i ≡ 0
 unnumbered n zero f l = refl
 unnumbered n (suc i) f l = absurd (both_ways _ f (numbered_from n (suc i) (omega arith) l))
 
-all_parts : {X : Type 0} (P : X → Type 0) (xs ys : List X) → All P (xs ++ ys) → All P xs × All P ys
+all_parts : {X : Type 0} (P : X → Type 0) (xs ys : List X) → AllByRecursion P (xs ++ ys) → AllByRecursion P xs × AllByRecursion P ys
 all_parts P [] ys a = (tt, a)
 all_parts P (x ∷ xs) ys a = let r = all_parts P xs ys a.1 in ((a.0, r.0), r.1)
 
@@ -62,7 +62,7 @@ module _ (areas : List Area)
         (i parent b after : ℕ) →
         numbered (length areas) i ≡ true →
         fits areas (record { area = i; level = suc l; parent = parent; before = b; after = after }) ≡ true →
-        All (λ p. fits areas p ≡ true) (walk_from areas l i (area_at areas i).child (b + (area_at areas i).slots)) →
+        AllByRecursion (λ p. fits areas p ≡ true) (walk_from areas l i (area_at areas i).child (b + (area_at areas i).slots)) →
         length (walk_from areas l i (area_at areas i).child (b + (area_at areas i).slots)) ≤ length areas →
         SomeTree areas (suc l) i (i ∷ numbers_of (walk_from areas l i (area_at areas i).child (b + (area_at areas i).slots)))
 
@@ -84,7 +84,7 @@ module _ (areas : List Area)
 
     row_stands : (l : ℕ) → Standing l → (f parent i b : ℕ) → f ≤ length areas + 1 →
         numbered (length areas) i ≡ true →
-        All (λ p. fits areas p ≡ true) (along areas (walk_from areas l) (suc l) parent f i b) →
+        AllByRecursion (λ p. fits areas p ≡ true) (along areas (walk_from areas l) (suc l) parent f i b) →
         length (along areas (walk_from areas l) (suc l) parent f i b) < f →
         SomeRow areas (suc l) i (numbers_of (along areas (walk_from areas l) (suc l) parent f i b))
     row_stands l below zero parent i b r t a s = absurd (omega arith)
@@ -94,7 +94,7 @@ module _ (areas : List Area)
         let rest = along areas (walk_from areas l) (suc l) parent f (area_at areas i).next b' in
         let p : Place = record { area = i; level = suc l; parent = parent; before = b; after = b' } in
         let e : along areas (walk_from areas l) (suc l) parent (suc f) i b ≡ p ∷ (inner ++ rest) = along_more areas (walk_from areas l) (suc l) parent (suc f) f i b (omega arith) t in
-        let fit : All (λ p. fits areas p ≡ true) (p ∷ (inner ++ rest)) = subst (All (λ p. fits areas p ≡ true)) e a in
+        let fit : AllByRecursion (λ p. fits areas p ≡ true) (p ∷ (inner ++ rest)) = subst (AllByRecursion (λ p. fits areas p ≡ true)) e a in
         let parts = all_parts (λ p. fits areas p ≡ true) inner rest fit.1 in
         let long : suc (length inner + length rest) < suc f = omega (arith, s, ap length e, length-append inner rest) in
         subst (λ ps. SomeRow areas (suc l) i (numbers_of ps)) (sym e)
@@ -121,7 +121,7 @@ module _ (areas : List Area)
 top_stands : (areas : List Area) (level : ℕ) → 1 ≤ level → numbered (length areas) 1 ≡ true → (area_at areas 1).next ≡ 0 →
     ((i : ℕ) → numbered (length areas) i ≡ true → ((area_at areas i).child ≤ length areas) × ((area_at areas i).next ≤ length areas)) →
     ((i : ℕ) → numbered (length areas) i ≡ true → slots_right (area_at areas i) ≡ true) →
-    All (λ p. fits areas p ≡ true) (walk_from areas level 0 1 0) → length (walk_from areas level 0 1 0) ≤ length areas →
+    AllByRecursion (λ p. fits areas p ≡ true) (walk_from areas level 0 1 0) → length (walk_from areas level 0 1 0) ≤ length areas →
     SomeTree areas level 1 (numbers_of (walk_from areas level 0 1 0))
 unfolding walk_from
 top_stands areas zero l t z range right a s = absurd (omega arith)

@@ -1,6 +1,6 @@
 -- Where the walk meets each area: what stands before the place, what stands below it, and under which place it stands.
 use Rattle.std.proofs.Common.{◌≡◌, ℕ, zero, suc, ◌+◌, ◌-◌, ◌<◌, ◌≤◌, ◌⊎◌, List, [], ◌∷◌, ◌++◌, length, get_or, replicate, sym, refl, ap, ◌∙◌, subst, inl, inr, ⊎_elim, arith}
-use Rattle.std.specs.List.{ContainsAt as Has, AllByRecursion as All}
+use Rattle.std.specs.List.{ContainsAt as Has, AllByRecursion}
 use Rattle.std.proofs.ByRecursion.{All-append, All-weaker, has_get_or, has_append_left, has_append_right}
 use Rattle.std.proofs.lemmas.List.{append-nil, append_assoc, get_or_append_left, get_or-append_right, get_or-replicate, length-replicate}
 use Rattle.std.proofs.lemmas.Bool.{cond_both}
@@ -65,12 +65,12 @@ module _ (areas : List Area) where
             m.over;
       }
 
-  along_met : (l parent : ℕ) → ((i c b : ℕ) → All (Met areas (walk_from areas l i c b) l i b) (walk_from areas l i c b)) →
-      (n i b : ℕ) → All (Met areas (along areas (walk_from areas l) (suc l) parent n i b) (suc l) parent b) (along areas (walk_from areas l) (suc l) parent n i b)
+  along_met : (l parent : ℕ) → ((i c b : ℕ) → AllByRecursion (Met areas (walk_from areas l i c b) l i b) (walk_from areas l i c b)) →
+      (n i b : ℕ) → AllByRecursion (Met areas (along areas (walk_from areas l) (suc l) parent n i b) (suc l) parent b) (along areas (walk_from areas l) (suc l) parent n i b)
   unfolding along
   along_met l parent h zero i b = tt
   along_met l parent h (suc n) i b =
-      cond_both (numbered (length areas) i) _ _ (λ ws. All (Met areas ws (suc l) parent b) ws) (λ _. (here, All-append (Met areas walk (suc l) parent b) inner rest below (behind (along_met l parent h n _ _)))) (λ _. tt)
+      cond_both (numbered (length areas) i) _ _ (λ ws. AllByRecursion (Met areas ws (suc l) parent b) ws) (λ _. (here, All-append (Met areas walk (suc l) parent b) inner rest below (behind (along_met l parent h n _ _)))) (λ _. tt)
     where
       s : ℕ
       s = (area_at areas i).slots
@@ -90,7 +90,7 @@ module _ (areas : List Area) where
       here : Met areas walk (suc l) parent b p
       here = record { lower = l; pre = []; post = rest; high = refl; low = omega arith; splits = refl; before = omega arith; after = refl; over = inl (refl, refl) }
 
-      below : All (Met areas walk (suc l) parent b) inner
+      below : AllByRecursion (Met areas walk (suc l) parent b) inner
       below =
           All-weaker (Met areas inner l i (b + s)) (Met areas walk (suc l) parent b)
           (λ q m.
@@ -98,7 +98,7 @@ module _ (areas : List Area) where
           (λ top. inr (p, has_get_or walk 0 p (omega arith), (sym top.0, omega arith, omega (arith, m.before), met_ends inner l i (b + s) q m))) m)
           inner (h i (area_at areas i).child (b + s))
 
-      behind : All (Met areas rest (suc l) parent (b + s + slots_in areas inner)) rest → All (Met areas walk (suc l) parent b) rest
+      behind : AllByRecursion (Met areas rest (suc l) parent (b + s + slots_in areas inner)) rest → AllByRecursion (Met areas walk (suc l) parent b) rest
       behind =
           All-weaker (Met areas rest (suc l) parent (b + s + slots_in areas inner)) (Met areas walk (suc l) parent b)
           (λ q m.
@@ -107,7 +107,7 @@ module _ (areas : List Area) where
           rest
 
   -- each place of a walk
-  pub walk_met : (l parent i b : ℕ) → All (Met areas (walk_from areas l parent i b) l parent b) (walk_from areas l parent i b)
+  pub walk_met : (l parent i b : ℕ) → AllByRecursion (Met areas (walk_from areas l parent i b) l parent b) (walk_from areas l parent i b)
   unfolding walk_from
   walk_met zero parent i b = tt
   walk_met (suc l) parent i b = along_met l parent (walk_met l) (length areas + 1) i b

@@ -1,6 +1,6 @@
 -- The rules of a plan, one fact for each.
 use Rattle.std.proofs.Common.{◌≡◌, ℕ, ◌≤◌, true, cond, eqb, leb, List, length, is_some, Ok, sym, ap, ◌∙◌, subst, ⊎_elim, arith}
-use Rattle.std.specs.List.{range_with_len, AllByRecursion as All}
+use Rattle.std.specs.List.{range_with_len, AllByRecursion}
 use Rattle.std.proofs.lemmas.Bool.{cases_eq, and_parts, and_from, leb-true, le-leb, eqb-true, eq-eqb, ne_eqb, cond-true}
 use Rattle.chain.specs.Chain.{numbered}
 use Rattle.chain.proofs.Chains.{numbered_from, numbered_parts}
@@ -19,7 +19,7 @@ pub record Rules (areas : List Area) : Type 0 where
   pub range : (i : ℕ) → numbered (length areas) i ≡ true → (1 ≤ (area_at areas i).level) × ((area_at areas i).level ≤ 4) × ((area_at areas i).child ≤ length areas) × ((area_at areas i).next ≤ length areas)
   pub alone : (area_at areas 1).next ≡ 0
   pub short : length (walk_of areas) ≤ length areas
-  pub fit : All (λ p. fits areas p ≡ true) (walk_of areas)
+  pub fit : AllByRecursion (λ p. fits areas p ≡ true) (walk_of areas)
   pub once : (i : ℕ) → numbered (length areas) i ≡ true → times i (numbers_of (walk_of areas)) ≡ 1
   pub right : (i : ℕ) → numbered (length areas) i ≡ true → slots_right (area_at areas i) ≡ true
   pub total : slot_count areas ≤ 1024

@@ -1,6 +1,6 @@
 -- A test of each element of a list, an element at a time, and what it tells.
 use Rattle.std.proofs.Common.{◌≡◌, ℕ, zero, suc, ◌+◌, ◌<◌, ◌≤◌, Bool, true, false, List, [], ◌∷◌, length, get_or, drop, refl, ◌∙◌, subst, ⊎_elim, add-one, arith}
-use Rattle.std.specs.List.{range_with_len, AllByRecursion as All}
+use Rattle.std.specs.List.{range_with_len, AllByRecursion}
 use Rattle.std.proofs.lemmas.List.{at_drop_more, at_drop_all}
 use Rattle.std.proofs.lemmas.Bool.{and_parts, and_from, cases_eq}
 use Rattle.chain.specs.Chain.{numbered}
@@ -17,11 +17,11 @@ module _ {X : Type 0} (ok : X → Bool) where
   pub every_done : (xs : List X) (i : ℕ) → length xs ≤ i → every ok (drop i xs) ≡ true
   every_done xs i l = at_drop_all (every ok) xs i l
 
-  pub all_from_test : (xs : List X) → every ok xs ≡ true → All (λ x. ok x ≡ true) xs
+  pub all_from_test : (xs : List X) → every ok xs ≡ true → AllByRecursion (λ x. ok x ≡ true) xs
   all_from_test [] e = tt
   all_from_test (x ∷ xs) e = let p = and_parts (ok x) (every ok xs) e in (p.0, all_from_test xs p.1)
 
-  pub test_from_all : (xs : List X) → All (λ x. ok x ≡ true) xs → every ok xs ≡ true
+  pub test_from_all : (xs : List X) → AllByRecursion (λ x. ok x ≡ true) xs → every ok xs ≡ true
   test_from_all [] a = refl
   test_from_all (x ∷ xs) a = and_from (ok x) (every ok xs) a.0 (test_from_all xs a.1)
 

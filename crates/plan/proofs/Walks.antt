@@ -1,6 +1,6 @@
 -- The walk, a step at a time.
 use Rattle.std.proofs.Common.{◌≡◌, ℕ, zero, suc, ◌+◌, ◌-◌, ◌*◌, ◌<◌, ◌≤◌, true, false, leb, List, [], ◌∷◌, ◌++◌, map, length, get_or, set, sym, refl, ap, ◌∙◌, ⊎_elim, add-one, arith}
-use Rattle.std.specs.List.{AllByRecursion as All}
+use Rattle.std.specs.List.{AllByRecursion}
 use Rattle.std.proofs.ByRecursion.{All-append}
 use Rattle.std.proofs.lemmas.List.{append-nil, append_assoc, length-append, length_push, length-set, length-map, set_at, get_or_at, get_or-map}
 use Rattle.std.proofs.lemmas.Bool.{cases_lt, cond_both, le-leb, lt-leb}
@@ -134,20 +134,20 @@ splits_at areas below level parent f m at i b head fm t ia h = rw (h, ia) (along
 
 -- what holds of the place that is noted for each area holds of all the walk's places
 module _ (areas : List Area) (P : Place → Type 0) (noted : (level parent i before after : ℕ) → numbered (length areas) i ≡ true → P (record { area = i; level = level; parent = parent; before = before; after = after })) where
-  along_all : (below : ℕ → ℕ → ℕ → List Place) (level parent : ℕ) → ((i c b : ℕ) → All P (below i c b)) → (n i before : ℕ) → All P (along areas below level parent n i before)
+  along_all : (below : ℕ → ℕ → ℕ → List Place) (level parent : ℕ) → ((i c b : ℕ) → AllByRecursion P (below i c b)) → (n i before : ℕ) → AllByRecursion P (along areas below level parent n i before)
   unfolding along
   along_all below level parent h zero i before = tt
   along_all below level parent h (suc n) i before =
-      cond_both (numbered (length areas) i) _ _ (All P)
+      cond_both (numbered (length areas) i) _ _ (AllByRecursion P)
       (λ t. (noted level parent i before _ t, All-append P (below i (area_at areas i).child (before + (area_at areas i).slots)) _ (h _ _ _) (along_all below level parent h n _ _)))
       (λ _. tt)
 
-  pub walk_all : (level parent i before : ℕ) → All P (walk_from areas level parent i before)
+  pub walk_all : (level parent i before : ℕ) → AllByRecursion P (walk_from areas level parent i before)
   unfolding walk_from
   walk_all zero parent i before = tt
   walk_all (suc l) parent i before = along_all (walk_from areas l) (suc l) parent (walk_all l) (length areas + 1) i before
 
-pub walk_numbered : (areas : List Area) (level parent i before : ℕ) → All (λ p. numbered (length areas) p.area ≡ true) (walk_from areas level parent i before)
+pub walk_numbered : (areas : List Area) (level parent i before : ℕ) → AllByRecursion (λ p. numbered (length areas) p.area ≡ true) (walk_from areas level parent i before)
 walk_numbered areas = walk_all areas (λ p. numbered (length areas) p.area ≡ true) (λ level parent i before after t. t)
 
 -- a walk from nothing that has not met too many areas is the whole walk

@@ -1,6 +1,6 @@
 // The walk of the area tree.
 ghost use Rattle.std.specs.Prelude.{◌≡◌, ℕ, ◌+◌, ◌-◌, ◌*◌, ◌<◌, ◌≤◌, true, ◌&&◌, [], ◌++◌, map, length, replicate, is_some, IfOk, if◌then◌else◌, Ok, Err, OnOk};
-ghost use Rattle.std.specs.List.{range_with_len, AllByRecursion as All};
+ghost use Rattle.std.specs.List.{range_with_len, AllByRecursion};
 ghost use Rattle.chain.specs.Chain.{numbered};
 ghost use Rattle.plan.specs.declared.refusal.Refusal.TheVariants.{NotATree};
 ghost use Rattle.plan.specs.Answers.{Answers};
@@ -86,7 +86,7 @@ fn stands_right(areas: &[Area], place: Place) -> bool
 }
 
 fn all_stand_right(areas: &[Area], places: &[Place]) -> bool
-    requires { All (λ p. numbered (length areas.now) p.area ≡ true) places.now }
+    requires { AllByRecursion (λ p. numbered (length areas.now) p.area ≡ true) places.now }
     ensures { result ≡ every (fits areas.now) places.now }
 {
     for i in 0..places.len() {
@@ -181,7 +181,7 @@ pub(crate) fn homes_of(
     areas: &[Area],
     order: &[Place],
 ) -> Result<Vec<u16>, AllocError>
-    requires { All (λ p. numbered (length areas.now) p.area ≡ true) order.now }
+    requires { AllByRecursion (λ p. numbered (length areas.now) p.area ≡ true) order.now }
     ensures { IfOk result (λ v. v.items ≡ homes_in areas.now order.now) }
 {
     let mut homes = Vec::new(heap);

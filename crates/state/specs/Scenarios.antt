@@ -1,7 +1,7 @@
 -- Worked scenarios on the sample plan, computed with the rules.
 use Rattle.std.specs.Prelude.{◌≡◌, ℕ, zero, suc, Bool, true, false, List, [], ◌∷◌, ◌++◌, replicate, is_some, Some, None, Ok, Err, codes, Option, Result}
 use Rattle.std.specs.Option.{unwrap_or}
-use Rattle.std.specs.List.{AllByRecursion as All}
+use Rattle.std.specs.List.{AllByRecursion}
 use Rattle.plan.specs.declared.area.Area.{Area}
 use Rattle.plan.specs.Reading.{areas_of, read_plan}
 use Rattle.plan.specs.Refusals as plan-refusals
@@ -159,7 +159,7 @@ scenarios =
     ∷ []
 
 abbrev pub ScenariosComeOut : Type 0
-ScenariosComeOut = All ComesOut scenarios
+ScenariosComeOut = AllByRecursion ComesOut scenarios
 
 -- Further scenarios.
 
@@ -193,4 +193,4 @@ further_scenarios =
     ∷ []
 
 abbrev pub FurtherScenariosComeOut : Type 0
-FurtherScenariosComeOut = All ComesOut further_scenarios
+FurtherScenariosComeOut = AllByRecursion ComesOut further_scenarios

@@ -1,5 +1,5 @@
 use Rattle.std.proofs.Common.{◌≡◌, ℕ, true, cond, List, map, length, Ok, Err, vec_items, sym, ap, ◌∙◌, subst}
-use Rattle.std.specs.List.{range_with_len, AllByRecursion as All}
+use Rattle.std.specs.List.{range_with_len, AllByRecursion}
 use Rattle.std.proofs.lemmas.Result.{err_from_is_err_and}
 use Rattle.chain.specs.Chain.{numbered}
 use Rattle.plan.specs.declared.area.Area.{Area}
@@ -47,7 +47,7 @@ pub homes_of-requires : goal.homes_of-requires
 homes_of-requires c =
     let areas = c.args.areas.now in
     let ordered = at_slice areas _ c.as_slice-order.result.now _ c.as_slice-order.ensures.value c.in_ok-walked.ensures in
-    subst (All (λ p. numbered (length areas) p.area ≡ true)) (sym (order_told areas _ _ ordered)) (walk_numbered areas _ _ _ _)
+    subst (AllByRecursion (λ p. numbered (length areas) p.area ≡ true)) (sym (order_told areas _ _ ordered)) (walk_numbered areas _ _ _ _)
 
 pub returns : goal.returns
 returns c =

@@ -1,7 +1,7 @@
 use Rattle.std.proofs.Common.{◌≡◌, ℕ, ◌<◌, ◌≤◌, true, List, length, get_or, ap, ◌∙◌, arith}
 use Rattle.std.proofs.ByRecursion.{All-get_or}
 use Rattle.std.proofs.lemmas.List.{take_all}
-use Rattle.std.specs.List.{AllByRecursion as All}
+use Rattle.std.specs.List.{AllByRecursion}
 use Rattle.chain.specs.Chain.{numbered}
 use Rattle.plan.specs.declared.area.Place.{Place}
 use Rattle.plan.specs.declared.area.Area.{Area}
@@ -10,7 +10,7 @@ use Rattle.chain.proofs.Chains.{numbered_parts}
 use Rattle.plan.proofs.Homes.{homes_more}
 use Rattle.plan.proofs.tree.homes_of.Goals as goal
 
-number : (areas : List Area) (order : List Place) (i : ℕ) (d : Place) → i < length order → All (λ p. numbered (length areas) p.area ≡ true) order → (1 ≤ (get_or order i d).area) × ((get_or order i d).area ≤ length areas)
+number : (areas : List Area) (order : List Place) (i : ℕ) (d : Place) → i < length order → AllByRecursion (λ p. numbered (length areas) p.area ≡ true) order → (1 ≤ (get_or order i d).area) × ((get_or order i d).area ≤ length areas)
 number areas order i d l a = numbered_parts (length areas) _ (All-get_or (λ p. numbered (length areas) p.area ≡ true) order i d l a)
 
 pub overflow_sub-area : goal.overflow_sub-area
