@@ -10,7 +10,7 @@ use Rattle.state.specs.declared.slot.Slot.{Slot}
 use Rattle.state.specs.Calls.{holds_at}
 use Rattle.state.specs.Registers.{held}
 use Rattle.state.specs.Memory.{Memory, free_slot, block_at}
-use Rattle.laws.specs.Roots.{Root, from_register, on_hold, Reach, root, step}
+use Rattle.state.specs.Pasts.{Root, from_register, on_hold, Reach, root, step}
 use Rattle.guarantees.specs.Needed.{FromRegisters, register, onward}
 
 abbrev pub is_number : Word → Bool
@@ -41,7 +41,7 @@ module _ (s : Memory) (numbers : every is_number s.registers ≡ true) where
 
     none_root : {b : ℕ} → Root s b → ⊥
     none_root (from_register {b = b} r is e) = no_pointer r b e
-    none_root (on_hold {b = b} k l e h) = no_hold b k e h
+    none_root (on_hold {b = b} k e h) = no_hold b k e h
 
     pub none_reached : {b : ℕ} → Reach s b → ⊥
     none_reached (root r) = none_root r

@@ -4,7 +4,7 @@ use Rattle.state.specs.declared.word.Word.TheVariants.{Pointer}
 use Rattle.state.specs.Registers.{is_register, held}
 use Rattle.state.specs.Memory.{Memory}
 use Rattle.state.specs.Pasts.{Points}
-use Rattle.laws.specs.Roots.{Reach}
+use Rattle.state.specs.Pasts.{Reach}
 use Rattle.laws.specs.Promises.{TurnsAloneRecoverAllBut, RoundsEndWithin, MarkingsEndWithin, RecoveriesEndWithin}
 
 -- Reachable from registers alone: holds are left out.

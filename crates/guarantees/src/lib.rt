@@ -6,33 +6,39 @@
 ghost use Rattle.std.specs.Prelude.{◌+◌, ◌-◌, ◌*◌};
 ghost use Rattle.guarantees.specs.Needed.{ATurnLessIsTooFew, HoldsKeepBlocks, NoLapIsTooFew, OneLapIsTooFew, TwoRecoveriesAreTooFew};
 ghost use Rattle.guarantees.specs.Picks.{NoTakenMarkIsDropped, PickedPastsArePasts, SameCallsSameEnd, TurnsGoOnAPast};
-ghost use Rattle.laws.specs.Roots.{Reach};
+ghost use Rattle.state.specs.Pasts.{Reach};
+ghost use Rattle.state.specs.Promises.{MarkingsEndSoon, NoReachableBlockIsRecovered, RecoveriesEndSoon, RoundsEndSoon, TurnsAloneRecoverAllGarbage};
 ghost use Rattle.laws.specs.Promises.{MarkingsEndWithin, NoCallRecovers, RecoveriesEndWithin, RoundsEndWithin, TurnsAloneRecoverAllBut};
 
 /// No call of any past recovers a block that was reachable when the call came.
 pub fn no_reachable_block_is_recovered()
-    ensures { NoCallRecovers Reach }
+    ensures figures { NoCallRecovers Reach }
+    ensures promised { NoReachableBlockIsRecovered }
 {}
 
 /// Under turns alone: three recoveries of the top area, then three of every area of each level downward, then two rounds of
 /// every lowest area, and every block that was unreachable when the turns began is free.
 pub fn turns_alone_recover_all_garbage()
-    ensures { TurnsAloneRecoverAllBut Reach 3 2 }
+    ensures figures { TurnsAloneRecoverAllBut Reach 3 2 }
+    ensures promised { TurnsAloneRecoverAllGarbage }
 {}
 
 /// Under turns alone a lowest area ends a round within 2n + H + 2 of its turns, where it has n slots and H is the top level.
 pub fn rounds_end_soon()
-    ensures { RoundsEndWithin (λ slots top. 2 * slots + top + 2) }
+    ensures figures { RoundsEndWithin (λ slots top. 2 * slots + top + 2) }
+    ensures promised { RoundsEndSoon }
 {}
 
 /// Under turns alone an area of level L over n slots that is marking ends that marking within 2n(L − 1) + 2 laps.
 pub fn markings_end_soon()
-    ensures { MarkingsEndWithin (λ slots level. 2 * slots * (level - 1) + 2) }
+    ensures figures { MarkingsEndWithin (λ slots level. 2 * slots * (level - 1) + 2) }
+    ensures promised { MarkingsEndSoon }
 {}
 
 /// Under turns alone an area that is recovering ends that recovery within one lap.
 pub fn recoveries_end_soon()
-    ensures { RecoveriesEndWithin 1 }
+    ensures figures { RecoveriesEndWithin 1 }
+    ensures promised { RecoveriesEndSoon }
 {}
 
 /// What turns alone lead to after a past came about by a past: so one may begin to count anywhere among them.
