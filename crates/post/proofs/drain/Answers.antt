@@ -21,9 +21,8 @@ loop-mark-preserved g c =
     let r = g.R.Receiver in (
       t.size ∙ inv.0,
       ap (outside first last) t.taken.2 ∙ outside_more first last w k t.taken.0 ∙ inv.1,
-      c.receive.ensures.room ∙ inv.2,
-      turn first last (r.room c.loop-mark.to) (r.room c.receive.new.self) w (g.P.Post.waits c.take.new.self) (r.got c.loop-mark.to) (r.got c.receive.new.self) k t.taken.0 t.taken.1 t.taken.2 c.receive.ensures.room c.receive.ensures.got
-          ∙ inv.3,
+      (assumption) ∙ inv.2,
+      turn first last (r.room c.loop-mark.to) _ w (g.P.Post.waits c.take.new.self) (r.got c.loop-mark.to) _ k t.taken.0 t.taken.1 t.taken.2 (assumption) (assumption) ∙ inv.3,
     )
 
 pub returns : goal.returns
