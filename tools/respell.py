@@ -110,6 +110,9 @@ def respell_page(text, turned):
 
 
 def main():
+    if os.path.exists("docs/PORT.md"):
+        print("respelled already: a second run would take new names for old ones")
+        return 1
     own, turned = changes()
     clash = together(own, turned)
     for m, ns in sorted(clash.items()):

@@ -18,11 +18,11 @@ fn run(rt: &HostRuntime) -> anyhow::Result<()> {
         Ok(plan) => plan,
         Err(refusal) => {
             eprintln!(rt; "plan refused: {refusal}")?;
-            return Err(anyhow!("plan refused"));
+            return Err(anyhow!("\"plan refused\""));
         }
     };
     if input.len() > 0 {
-        return Err(anyhow!("messages are not understood yet"));
+        return Err(anyhow!("\"messages are not understood yet\""));
     }
     let text = fresh_listing(heap, &plan)?;
     rt.stdout().write_all(&text)?;
