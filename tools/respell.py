@@ -10,7 +10,6 @@ import subprocess
 import sys
 
 KIT = os.path.join(os.path.dirname(subprocess.run(["rt", "doc"], capture_output=True, text=True, check=True).stdout.strip()), "rattle")
-BREAK = r"[\s.,;:(){}\[\]λ|]"
 TOKEN = re.compile(r"[^\s.,;:(){}\[\]λ|`\"]+")
 DEFINED = re.compile(r"^\s*(?:(?:pub|abbrev|unfoldable|data|record|ruleset|ghost) +)*([^\s:(){};,\[\]λ|.]+)(?: +[({][^)}]*[)}])* :(?: |$)")
 # Fields and constructors that would fall together with a definition; and a word that is a tactic's.

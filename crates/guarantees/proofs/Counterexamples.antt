@@ -5,8 +5,7 @@ use Rattle.plan.specs.Tree.{every}
 use Rattle.state.specs.Calls.{Call, hold}
 use Rattle.state.specs.Layout.{top, area_size}
 use Rattle.state.specs.Memory.{Memory, World, block_at}
-use Rattle.state.specs.Pasts.{round_ends, marking_ends, recovery_ends, times, turns_of, turns_done, marking, round_within, lap, no_lap}
-use Rattle.state.specs.Pasts.{Reach}
+use Rattle.state.specs.Pasts.{Reach, round_ends, marking_ends, recovery_ends, times, turns_of, turns_done, marking, round_within, lap, no_lap}
 use Rattle.laws.specs.Promises.{Downward, TurnsAloneRecoverAllBut, level_part, down_to_one}
 use Rattle.state.specs.Scenarios.{make, write, zero_register, read, turn}
 use Rattle.guarantees.specs.Needed.{FromRegisters, ATurnLessIsTooFew, NoLapIsTooFew, OneLapIsTooFew, HoldsKeepBlocks, TwoRecoveriesAreTooFew}

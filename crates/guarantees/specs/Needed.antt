@@ -3,8 +3,7 @@ use Rattle.std.specs.Prelude.{◌≡◌, ℕ, ◌+◌, ◌*◌, true}
 use Rattle.state.specs.declared.word.Word.TheVariants.{Pointer}
 use Rattle.state.specs.Registers.{is_register, held}
 use Rattle.state.specs.Memory.{Memory}
-use Rattle.state.specs.Pasts.{Points}
-use Rattle.state.specs.Pasts.{Reach}
+use Rattle.state.specs.Pasts.{Points, Reach}
 use Rattle.laws.specs.Promises.{TurnsAloneRecoverAllBut, RoundsEndWithin, MarkingsEndWithin, RecoveriesEndWithin}
 
 -- Reachable from registers alone: holds are left out.
@@ -16,7 +15,7 @@ pub data FromRegisters (s : Memory) : ℕ → Type 0 where
 abbrev pub TwoRecoveriesAreTooFew : Type 0
 TwoRecoveriesAreTooFew = TurnsAloneRecoverAllBut Reach 2 2 → ⊥
 
--- A block with a hold stays, though no register leads to it.
+-- If only registers made blocks reachable, the recovery of all other blocks would be false: a block with a hold stays.
 abbrev pub HoldsKeepBlocks : Type 0
 HoldsKeepBlocks = TurnsAloneRecoverAllBut FromRegisters 3 2 → ⊥
 

@@ -1,5 +1,5 @@
 -- Pasts that turns go on, and pasts in which each round's start takes its marks one by one, in whatever order the post picks them.
-use Rattle.std.specs.Prelude.{◌≡◌, ℕ, true, ◌&&◌, leb, List, [], ◌∷◌, ◌++◌, Ok, nat_le}
+use Rattle.std.specs.Prelude.{◌≡◌, ℕ, true, ◌&&◌, List, [], ◌∷◌, ◌++◌, Ok, nat_le}
 use Rattle.plan.specs.declared.area.Area.{Area}
 use Rattle.plan.specs.Plans.{is_plan}
 use Rattle.post.specs.declared.Mark.{Mark}
@@ -16,7 +16,7 @@ use Rattle.state.specs.Pasts.{MarksOf, Past, resting, turns_done}
 
 -- The message asks for a turn that starts a round of area a.
 pub record StartsRound (plan : Layout) (size : ℕ) (w : World) (bytes : List ℕ) (a : ℕ) : Type 0 where
-  pub fits : leb (slot_count plan) size ≡ true
+  pub fits : nat_le (slot_count plan) size ≡ true
   pub turn : decoded bytes ≡ Ok (messages.Turn a)
   pub low : lowest plan a ≡ true
   pub rests : resting w a ≡ true

@@ -66,7 +66,7 @@ pub fn two_recoveries_are_too_few()
     ensures { TwoRecoveriesAreTooFew }
 {}
 
-/// A block with a hold stays, though no register leads to it: with holds left out, recovery of all other blocks is false.
+/// If only registers made blocks reachable, the recovery of all other blocks would be false: a block with a hold stays.
 pub fn holds_keep_blocks()
     ensures { HoldsKeepBlocks }
 {}

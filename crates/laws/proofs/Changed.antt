@@ -13,7 +13,7 @@ use Rattle.state.specs.Blocks as marks
 use Rattle.state.specs.Blocks.{level_place, word_at, is_pointer_to, points_to, shaded_to, shade, coloured, is_white, entry_at, has_entry, marked, marked_by, with_marks, recovered_entry, with_recovered, entered_at}
 use Rattle.state.specs.Memory.{Memory, block_at, changed_block, on_block}
 use Rattle.laws.specs.Views.{is_black, white_in, black_in, entry_in, mark_in}
-use Rattle.laws.proofs.Frames.{length_map_from, getD_map_from, block_on, set_either}
+use Rattle.laws.proofs.Frames.{length_map_from, get_or_map_from, block_on, set_either}
 use Rattle.state.specs.Turns.{clear_in}
 
 -- Tables
@@ -287,7 +287,7 @@ same_black f keeps (Some k) = ap is_black (keeps k)
 -- an element of a table by level
 level_mapped : {X Y : Type 0} (f : ℕ → X → Y) (xs : List X) (m : ℕ) (d : X) (e : Y) → length xs ≡ 3 → 2 ≤ m → m ≤ 4 → get_or (map_from f 2 xs) (level_place m) e ≡ f m (get_or xs (level_place m) d)
 level_mapped f xs m d e three lo hi =
-    getD_map_from f 2 xs (level_place m) d e (omega (arith, three, lo, hi)) ∙ ap (λ n. f n (get_or xs (level_place m) d)) (level_place_lem m lo)
+    get_or_map_from f 2 xs (level_place m) d e (omega (arith, three, lo, hi)) ∙ ap (λ n. f n (get_or xs (level_place m) d)) (level_place_lem m lo)
 
 some_mapped : (f : ℕ → Option Entry → Option Entry) → ((n : ℕ) (x : Option Entry) → is_some (f n x) ≡ is_some x) → (i : ℕ) (xs : List (Option Entry)) (n : ℕ) → is_some (get_or (map_from f i xs) n None) ≡ is_some (get_or xs n None)
 some_mapped f keeps i [] n = refl

@@ -24,10 +24,10 @@ length_map_from f i (x ∷ xs) = ap suc (length_map_from f (i + 1) xs)
 
 -- an element of a mapped table
 -- a table of one value, which is also the value past its end
-pub getD_filled : {X : Type 0} (n i : ℕ) (d : X) → get_or (replicate n d) i d ≡ d
-getD_filled zero i d = refl
-getD_filled (suc n) zero d = refl
-getD_filled (suc n) (suc i) d = getD_filled n i d
+pub get_or_filled : {X : Type 0} (n i : ℕ) (d : X) → get_or (replicate n d) i d ≡ d
+get_or_filled zero i d = refl
+get_or_filled (suc n) zero d = refl
+get_or_filled (suc n) (suc i) d = get_or_filled n i d
 
 -- an element of a table in which one was written
 pub set_either : {X : Type 0} (xs : List X) (p i : ℕ) (v d : X) → (get_or (set xs p v) i d ≡ v) ⊎ (get_or (set xs p v) i d ≡ get_or xs i d)
@@ -37,12 +37,12 @@ set_either (x ∷ xs) zero (suc i) v d = inr refl
 set_either (x ∷ xs) (suc p) zero v d = inr refl
 set_either (x ∷ xs) (suc p) (suc i) v d = set_either xs p i v d
 
-pub getD_map_from : {X Y : Type 0} (f : ℕ → X → Y) (i : ℕ) (xs : List X) (n : ℕ) (d : X) (e : Y) → n < length xs → get_or (map_from f i xs) n e ≡ f (i + n) (get_or xs n d)
-getD_map_from f i [] n d e h = absurd (omega (arith, h))
-getD_map_from f i (x ∷ xs) zero d e h = let z : i + 0 ≡ i = omega arith in rw z
-getD_map_from f i (x ∷ xs) (suc n) d e h =
+pub get_or_map_from : {X Y : Type 0} (f : ℕ → X → Y) (i : ℕ) (xs : List X) (n : ℕ) (d : X) (e : Y) → n < length xs → get_or (map_from f i xs) n e ≡ f (i + n) (get_or xs n d)
+get_or_map_from f i [] n d e h = absurd (omega (arith, h))
+get_or_map_from f i (x ∷ xs) zero d e h = let z : i + 0 ≡ i = omega arith in rw z
+get_or_map_from f i (x ∷ xs) (suc n) d e h =
     let z : (i + 1) + n ≡ i + suc n = omega arith in
-    subst (λ k. get_or (map_from f (i + 1) xs) n e ≡ f k (get_or xs n d)) z (getD_map_from f (i + 1) xs n d e (omega (arith, h)))
+    subst (λ k. get_or (map_from f (i + 1) xs) n e ≡ f k (get_or xs n d)) z (get_or_map_from f (i + 1) xs n d e (omega (arith, h)))
 
 -- Blocks
 
@@ -112,12 +112,12 @@ collector_any P s a c pc ps e =
 pub status_on : (f : ℕ → Status → Status) (c : Collector) (l : ℕ) → length c.status ≡ 3 → 2 ≤ l → l ≤ 4 → status_at (on_status f c) l ≡ f l (status_at c l)
 status_on f c l three lo hi =
     let e : 2 + level_place l ≡ l = omega (arith, lo) in
-    subst (λ k. status_at (on_status f c) l ≡ f k (status_at c l)) e (getD_map_from f 2 c.status (level_place l) Unstarted Unstarted (omega (arith, three, hi, lo)))
+    subst (λ k. status_at (on_status f c) l ≡ f k (status_at c l)) e (get_or_map_from f 2 c.status (level_place l) Unstarted Unstarted (omega (arith, three, hi, lo)))
 
 pub sends_with : (f : ℕ → Bool) (c : Collector) (l : ℕ) → length c.sends ≡ 3 → 2 ≤ l → l ≤ 4 → sends_at (with_sends f c) l ≡ f l
 sends_with f c l three lo hi =
     let e : 2 + level_place l ≡ l = omega (arith, lo) in
-    subst (λ k. sends_at (with_sends f c) l ≡ f k) e (getD_map_from (λ n _. f n) 2 c.sends (level_place l) false false (omega (arith, three, hi, lo)))
+    subst (λ k. sends_at (with_sends f c) l ≡ f k) e (get_or_map_from (λ n _. f n) 2 c.sends (level_place l) false false (omega (arith, three, hi, lo)))
 
 pub status_reset : (l : ℕ) (c : Collector) → length c.status ≡ 3 → 2 ≤ l → l ≤ 4 → status_at (reset_at l c) l ≡ Unstarted
 status_reset l c three lo hi = get_or-set_same c.status (level_place l) Unstarted Unstarted (omega (arith, three, hi, lo))

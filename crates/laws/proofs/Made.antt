@@ -19,7 +19,7 @@ use Rattle.laws.specs.Views.{white_in, black_in, entry_in, mark_in, white, black
 use Rattle.laws.specs.Invariant.{Told}
 use Rattle.laws.specs.Inductive.{Local, from_root, from_entry, from_mark, inward, Sound, Safe}
 use Rattle.laws.proofs.Plans.{low_first, low_numbered, within_first, numbered_first, within_numbered, by_area}
-use Rattle.laws.proofs.Frames.{slot_set, slot_set_other, collector_at_lem, collector_other, getD_filled}
+use Rattle.laws.proofs.Frames.{slot_set, slot_set_other, collector_at_lem, collector_other, get_or_filled}
 use Rattle.laws.proofs.Reached.{reached_first}
 use Rattle.laws.proofs.Covers.{local_first, covered_same, CanBeSet, settable_same}
 use Rattle.laws.proofs.Elsewhere.{marks_above_same}
@@ -50,10 +50,10 @@ module _ (plan : Layout) (n b : ℕ) (s t : Memory) (h : Makes plan n b s t) whe
   black_is = view_is black_in refl
 
   entry_is : (x m : ℕ) → 1 ≤ x → entry t x m ≡ entry s x m
-  entry_is x m = view_is (λ o. entry_in o m) (ap is_some (getD_filled 3 (level_place m) None)) x
+  entry_is x m = view_is (λ o. entry_in o m) (ap is_some (get_or_filled 3 (level_place m) None)) x
 
   mark_is : (x m l : ℕ) → 1 ≤ x → mark t x m l ≡ mark s x m l
-  mark_is x m l = view_is (λ o. mark_in o m l) (ap (λ e. Rattle.state.specs.Blocks.mark_in e l) (getD_filled 3 (level_place m) None)) x
+  mark_is x m l = view_is (λ o. mark_in o m l) (ap (λ e. Rattle.state.specs.Blocks.mark_in e l) (get_or_filled 3 (level_place m) None)) x
 
   used_here : is_some (block_at t b) ≡ true
   used_here = ap is_some h.here
@@ -70,7 +70,7 @@ module _ (plan : Layout) (n b : ℕ) (s t : Memory) (h : Makes plan n b s t) whe
   -- the new block points nowhere
   no_pointer : (y : ℕ) → Points t b y → ⊥
   no_pointer y e =
-      number_pointer (sym (getD_filled 8 e.word (Number 0)) ∙ sym (ap (λ o. word_of o e.word) h.here) ∙ ap (λ o. word_of o e.word) e.there ∙ e.pointer)
+      number_pointer (sym (get_or_filled 8 e.word (Number 0)) ∙ sym (ap (λ o. word_of o e.word) h.here) ∙ ap (λ o. word_of o e.word) e.there ∙ e.pointer)
 
   points_back : (x y : ℕ) → 1 ≤ x → Points t x y → Points s x y
   points_back x y first e = elim (cases_eq x b) [

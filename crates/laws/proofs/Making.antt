@@ -29,7 +29,7 @@ use Rattle.laws.specs.Views.{Shape, white_in, black_in, white, stage, status}
 use Rattle.laws.specs.Invariant.{FreeChain, HasCovered, has_ended_round, pass_over}
 use Rattle.laws.specs.Inductive.{Sound, Safe, Inductive}
 use Rattle.laws.proofs.Plans.{low_numbered, low_first, within_bounds, within_first, within_numbered, within_from}
-use Rattle.laws.proofs.Frames.{length_map_from, getD_map_from, getD_filled}
+use Rattle.laws.proofs.Frames.{length_map_from, get_or_map_from, get_or_filled}
 use Rattle.laws.proofs.SoundSlots.{among_first, among_later, among_rest, absent_unless}
 use Rattle.laws.proofs.Stages.{rest_pass, rest_sweep, unstarted_begun, unstarted_ended}
 use Rattle.laws.proofs.Changed.{none-some, number_pointer, some_from_lem}
@@ -126,13 +126,13 @@ module _ (plan : Layout) where
   rests = each_collector (λ c. c.stage ≡ Resting) (λ b. refl)
 
   unstarted : (a l : ℕ) → status (fresh plan) a l ≡ Unstarted
-  unstarted a l = each_collector (λ c. get_or c.status (l - 2) Unstarted ≡ Unstarted) (λ b. getD_filled 3 (l - 2) Unstarted) a
+  unstarted a l = each_collector (λ c. get_or c.status (l - 2) Unstarted ≡ Unstarted) (λ b. get_or_filled 3 (l - 2) Unstarted) a
 
   all_mark : (x : ℕ) → phase_at (fresh plan) x ≡ Marking
   all_mark x = fresh_phase 1 plan.areas (place x)
 
   no_root : (b : ℕ) → Root (fresh plan) b → ⊥
-  no_root b (from_register r ok e) = number_pointer (sym (getD_filled 16 r (Number 0)) ∙ e)
+  no_root b (from_register r ok e) = number_pointer (sym (get_or_filled 16 r (Number 0)) ∙ e)
   no_root b (on_hold k pos e h) = none_there b k e
 
   no_points : (p b : ℕ) → Points (fresh plan) p b → ⊥
@@ -169,7 +169,7 @@ module _ (plan : Layout) (law : Lawful plan) where
       let pos : 1 ≤ i = within_first plan a i inside in
       let back : 1 + place i ≡ i = omega arith in
       get_or-map (λ (x : Slot). x.next) (fresh plan).slots (place i) (free_slot 0) 0 long
-      ∙ ap (λ (x : Slot). x.next) (getD_map_from (λ b e. free_slot (cond (ltb b (last_of plan e)) (b + 1) 0)) 1 plan.homes (place i) 0 (free_slot 0) l)
+      ∙ ap (λ (x : Slot). x.next) (get_or_map_from (λ b e. free_slot (cond (ltb b (last_of plan e)) (b + 1) 0)) 1 plan.homes (place i) 0 (free_slot 0) l)
       ∙ ap (λ b. cond (ltb b (last_of plan (home plan i))) (b + 1) 0) back
       ∙ ap (λ e. cond (ltb i (last_of plan e)) (i + 1) 0) (law.only_home a i low inside)
 
@@ -202,7 +202,7 @@ module _ (plan : Layout) (law : Lawful plan) where
       let l : place a < length plan.areas = place_within (length plan.areas) a (low_numbered plan a low) in
       let pos : 1 ≤ a = low_first plan a low in
       let back : 1 + place a ≡ a = omega arith in
-      ap (λ (c : Collector). c.free) (getD_map_from (λ e _. new_collector (cond (lowest plan e) (first_in plan e) 0)) 1 plan.areas (place a) nothing (new_collector 0) l)
+      ap (λ (c : Collector). c.free) (get_or_map_from (λ e _. new_collector (cond (lowest plan e) (first_in plan e) 0)) 1 plan.areas (place a) nothing (new_collector 0) l)
       ∙ ap (λ e. cond (lowest plan e) (first_in plan e) 0) back
       ∙ cond-true (lowest plan a) (first_in plan a) 0 low
     where

@@ -24,7 +24,7 @@ use Rattle.laws.specs.Roots.{Root, from_register, on_hold}
 use Rattle.laws.specs.Views.{Shape, is_black, white, black, entry, white_in, black_in, entry_in, mark_in, stage, status, sends, mark}
 use Rattle.chain.proofs.Chains.{place_within, numbered_from}
 use Rattle.laws.proofs.Plans.{low_numbered, low_first, numbered_first, within_first, within_numbered}
-use Rattle.laws.proofs.Frames.{block_each, block_each_any, block_area, block_on, slot_set, slot_set_other, status_on, sends_with, status_reset, status_reset_other, sends_reset, sends_reset_other, phase_at_lem, phase_other, getD_map_from, collector_at_lem, collector_other}
+use Rattle.laws.proofs.Frames.{block_each, block_each_any, block_area, block_on, slot_set, slot_set_other, status_on, sends_with, status_reset, status_reset_other, sends_reset, sends_reset_other, phase_at_lem, phase_other, get_or_map_from, collector_at_lem, collector_other}
 use Rattle.laws.proofs.Graphs.{KeepsWords, SameGraph, graph_each, graph_trans, graph_sym, keeps_cond, used_back, root_back}
 use Rattle.laws.proofs.Changed.{level_place_lem, place_level, entry_inside, some_number, some_from_lem, every_number, every_fails, shaded_where, shaded_black_in, shaded_back, shaded_why, shaded_here, shaded_entry, shaded_mark, entered_why, entered_by_entry, entered_by_mark, pointing, points_word, word_points, on_here, on_other, black_here, not_white_here, coloured_entry, coloured_mark, same_white, same_black, Tabled, marks_entry, marks_mark, marks_colour, recovered_entry_lem, recovered_mark, recovered_colour, recovered_length, shaded_length, none-some, some_same, clear_from, clear_parts}
 use Rattle.laws.proofs.Stages.{is_ended_lem}
@@ -647,7 +647,7 @@ module _ (plan : Layout) (law : Lawful plan) where
   reset s shape x l p e low =
       let first = low_first plan e low in
       let z : 1 + place e ≡ e = omega (arith, first) in
-      getD_map_from (λ b c. cond (under plan x l b) (reset_at l c) c) 1 s.collectors (place e) (new_collector 0) (new_collector 0) (seat_inside s shape e low) ∙
+      get_or_map_from (λ b c. cond (under plan x l b) (reset_at l c) c) 1 s.collectors (place e) (new_collector 0) (new_collector 0) (seat_inside s shape e low) ∙
       ap (λ b. cond (under plan x l b) (reset_at l (collector_at s e)) (collector_at s e)) z
 
   stage_reset : (l : ℕ) (c : Collector) (t : Bool) → (cond t (reset_at l c) c).stage ≡ c.stage

@@ -17,7 +17,7 @@ use Rattle.laws.specs.Roots.{Root, from_register, on_hold}
 use Rattle.laws.specs.Invariant.{FreeChain}
 use Rattle.laws.specs.Inductive.{Sound}
 use Rattle.laws.proofs.Plans.{within_first, within_numbered, one_home, by_area}
-use Rattle.laws.proofs.Frames.{slot_set, slot_set_other, getD_filled}
+use Rattle.laws.proofs.Frames.{slot_set, slot_set_other, get_or_filled}
 use Rattle.laws.proofs.Sound.{Shaped, ShapedIn, Fit, fit_at, fit_put, shape_from, shape_put, shaped_at, collector_there, collector_elsewhere}
 use Rattle.laws.proofs.Changed.{number_pointer, none-some}
 
@@ -137,14 +137,14 @@ bare_new n =
       no_hold = λ k e held. absurd (grind (arith, e, held));
       no_pointer = λ k i b e p.
           let same : new_block n ≡ k = cc in
-          number_pointer (sym (getD_filled 8 i (Number 0)) ∙ (ap (λ y. word_at y i) same ∙ p));
+          number_pointer (sym (get_or_filled 8 i (Number 0)) ∙ (ap (λ y. word_at y i) same ∙ p));
     }
 
 shaped_new : (n : ℕ) → n ≤ 8 → Shaped (new_block n)
 shaped_new n small =
     record {
       block = record { words = refl; size = small; entries = refl };
-      marks = λ m e found. let none : None ≡ Some e = sym (getD_filled 3 (m - 2) None) ∙ found in absurd (grind (arith, none));
+      marks = λ m e found. let none : None ≡ Some e = sym (get_or_filled 3 (m - 2) None) ∙ found in absurd (grind (arith, none));
     }
 
 module _ (plan : Layout) (law : Lawful plan) (a : ℕ) (low : lowest plan a ≡ true) (s : Memory) (sound : Sound plan s) where

@@ -1,4 +1,4 @@
--- Where the invariant holds, no call recovers a reachable block.
+-- Where the clauses of Invariant hold, no call recovers a reachable block.
 use Rattle.std.proofs.Common.{◌≡◌, ℕ, ◌≤◌, true, is_some, sym, ap, ◌∙◌, subst, ⊎_elim, arith}
 use Rattle.std.proofs.lemmas.Bool.{false≢true, and_from, le-leb}
 use Rattle.chain.specs.Chain.{numbered}

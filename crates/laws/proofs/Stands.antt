@@ -1,4 +1,4 @@
--- Where the invariant holds, no call recovers a reachable block.
+-- Where the invariant that every call keeps holds, no call recovers a reachable block; reachable as Roots says it.
 use Rattle.std.proofs.Common.{◌≡◌, ℕ, ◌≤◌, true, is_some, sym, ap, ◌∙◌, subst, ⊎_elim, arith}
 use Rattle.std.proofs.lemmas.Bool.{false≢true, and_from, le-leb}
 use Rattle.state.specs.Layout.{Layout, first_in, last_of, within}

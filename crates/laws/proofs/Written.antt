@@ -22,7 +22,7 @@ use Rattle.laws.specs.Views.{is_black, white_in, black_in, entry_in, mark_in, wh
 use Rattle.laws.specs.Invariant.{Told}
 use Rattle.laws.specs.Inductive.{Local, from_root, from_entry, from_mark, inward, Sound, Safe}
 use Rattle.laws.proofs.Plans.{within_first, numbered_first}
-use Rattle.laws.proofs.Frames.{block_each_any, getD_filled}
+use Rattle.laws.proofs.Frames.{block_each_any, get_or_filled}
 use Rattle.laws.proofs.Graphs.{reach_inside}
 use Rattle.laws.proofs.Reached.{reached_first}
 use Rattle.laws.proofs.Covers.{local_first, covered_same, mark_or_waits_lem, CanBeSet}
@@ -156,7 +156,7 @@ entry_set (x ∷ es) (suc j) zero = inl refl
 entry_set (x ∷ es) (suc j) (suc i) = elim (entry_set es j i) [ inl e ↦ inl e | inr e ↦ inr (ap suc e.0, e.1) ]
 
 entered_mark : (o : Option Entry) (l : ℕ) → Rattle.state.specs.Blocks.mark_in (entered o) l ≡ Rattle.state.specs.Blocks.mark_in o l
-entered_mark None l = getD_filled 3 (level_place l) false
+entered_mark None l = get_or_filled 3 (level_place l) false
 entered_mark (Some e) l = refl
 
 entered_there : (o : Option Entry) → is_some (entered o) ≡ true

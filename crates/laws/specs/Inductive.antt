@@ -65,7 +65,7 @@ pub record Safe (plan : Layout) (w : World) : Type 0 where
   -- after its pass l an area has told of all that it has covered, or is told to begin again
   pub covered : (a l : ℕ) → lowest plan a ≡ true → 2 ≤ l → l ≤ top plan → marks_above plan w.memory a l ≡ true → HasCovered w.memory a l →
       SomeWaits plan w a l ⊎ Told plan w l (Local plan w.memory a l)
-  -- while the area above recovers and this one has not begun: entries that a reachable pointer needs are marked
+  -- while the area above recovers and this one has not begun: entries that a reachable pointer needs are marked, or their mark waits
   pub kept : (a p b l : ℕ) → lowest plan a ≡ true → 2 ≤ l → l ≤ top plan → marks_above plan w.memory a l ≡ false →
       status w.memory a l ≡ Unstarted → within plan a b ≡ true →
       Reach w.memory p → Points w.memory p b → level_of plan p b ≡ l → mark_or_waits w b l l ≡ true

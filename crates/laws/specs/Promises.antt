@@ -1,4 +1,4 @@
--- What the rules promise: for every accepted plan, every past and every post. Each statement takes its figures as arguments.
+-- What the rules promise: for every accepted plan, every past and every post. Each statement takes its figures, or the relation that it speaks of, as arguments.
 use Rattle.std.specs.Prelude.{◌≡◌, ℕ, suc, ◌≤◌, true, false, List, length}
 use Rattle.chain.specs.Chain.{numbered}
 use Rattle.plan.specs.declared.area.Area.{Area}

@@ -7,7 +7,7 @@ use Rattle.state.specs.declared.block.Colour.TheVariants.{White, Grey, Black}
 use Rattle.state.specs.declared.collector.Stage.{Stage}
 use Rattle.state.specs.declared.collector.Status.{Status}
 use Rattle.state.specs.Layout.{Layout, slot_count, above}
-use Rattle.state.specs.Blocks.{points_to, is_white, has_entry, marked}
+use Rattle.state.specs.Blocks.{is_white, has_entry, marked}
 use Rattle.state.specs.Memory.{Memory, World, block_at, collector_at, phase_at, status_at, sends_at, is_marking}
 
 abbrev pub is_black : Colour → Bool

@@ -1,5 +1,5 @@
 // What is asked of an accepted plan. Numbers that name no area, no lowest area or no slot get no answer.
-ghost use Rattle.std.specs.Prelude.{◌≡◌, ◌<◌, ◌≤◌, true, ◌&&◌, length, IfSome, if◌then◌else◌, Some, None, nat_le, slice_index};
+ghost use Rattle.std.specs.Prelude.{◌≡◌, ◌<◌, ◌≤◌, ◌&&◌, length, IfSome, if◌then◌else◌, Some, None, nat_le, slice_index};
 ghost use Rattle.chain.specs.Chain.{numbered};
 ghost use Rattle.plan.specs.Plans.{top_level, slot_count, is_lowest, slots_of, slots_held, place_of, homes_of, home_of, parent_of, area_over, common_level};
 ghost use Rattle.plan.specs.Walk.{area_at};

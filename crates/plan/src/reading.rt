@@ -1,5 +1,5 @@
 // Reading a plan's records out of bytes.
-ghost use Rattle.std.specs.Prelude.{◌≡◌, ℕ, ◌+◌, ◌-◌, ◌*◌, ◌/◌, ◌<◌, ◌≤◌, true, length, if◌then◌else◌, Some, None};
+ghost use Rattle.std.specs.Prelude.{◌≡◌, ◌+◌, ◌-◌, ◌*◌, ◌<◌, ◌≤◌, true, length, if◌then◌else◌, Some, None};
 ghost use Rattle.chain.specs.Chain.{numbered};
 ghost use Rattle.plan.specs.Reading.{area_of, record_in_range, read_records, first_wrong, slots_right};
 ghost use Rattle.plan.specs.Walk.{area_at};

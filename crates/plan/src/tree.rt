@@ -1,11 +1,11 @@
 // The walk of the area tree.
-ghost use Rattle.std.specs.Prelude.{◌≡◌, ℕ, ◌+◌, ◌-◌, ◌*◌, ◌<◌, ◌≤◌, true, ◌&&◌, [], ◌++◌, map, length, replicate, is_some, IfOk, if◌then◌else◌, Ok, Err, OnOk};
+ghost use Rattle.std.specs.Prelude.{◌≡◌, ◌+◌, ◌-◌, ◌*◌, ◌<◌, ◌≤◌, true, [], ◌++◌, map, length, replicate, is_some, IfOk, if◌then◌else◌, Ok, Err, OnOk};
 ghost use Rattle.std.specs.List.{range_with_len, AllByRecursion};
 ghost use Rattle.chain.specs.Chain.{numbered};
 ghost use Rattle.plan.specs.declared.refusal.Refusal.TheVariants.{NotATree};
 ghost use Rattle.plan.specs.Answers.{Answers};
 ghost use Rattle.plan.specs.Tree.{fits, every, unmet, only_place, place_in, homes_in, order_of};
-ghost use Rattle.plan.specs.Walk.{Walked, walk_from, walk_of, area_at, slots_in};
+ghost use Rattle.plan.specs.Walk.{Walked, walk_from};
 
 use crate::area::{Area, Place};
 use crate::refusal::Refusal;

@@ -26,10 +26,10 @@ fn bytes_of(heap: Global, line: &[u8]) -> anyhow::Result<Vec<u8>> {
             break;
         }
         let [high, low] = pair else {
-            return Err(anyhow!("half a byte"));
+            return Err(anyhow!("\"half a byte\""));
         };
         let (Some(high), Some(low)) = (digit(*high), digit(*low)) else {
-            return Err(anyhow!("not hexadecimal"));
+            return Err(anyhow!("\"not hexadecimal\""));
         };
         bytes.push(high << 4 | low)?;
     }

@@ -186,7 +186,7 @@ entry_one true true false x y h = refl
 entry_one true false false x y h = refl
 entry_one false t false x y h = refl
 
-module _ (plan : Layout) (a : ℕ) (k : Mark) (in_area_lem : within plan a k.block ≡ true) (from-1 : 1 ≤ k.block) (from_2 : 2 ≤ k.entry) where
+module _ (plan : Layout) (a : ℕ) (k : Mark) (in_area : within plan a k.block ≡ true) (from_1 : 1 ≤ k.block) (from_2 : 2 ≤ k.entry) where
   abbrev one : Waits
   one = settable plan a (same k)
 

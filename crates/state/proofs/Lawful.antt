@@ -10,7 +10,7 @@ use Rattle.plan.specs.declared.area.Area.{Area}
 use Rattle.plan.specs.declared.area.Place.{Place}
 use Rattle.plan.specs.Laws.{TreeLaws}
 use Rattle.plan.specs.Plans as plans
-use Rattle.plan.specs.Plans.{is_plan, place_of, places_of, homes_of, slots_of, home_of, is_lowest, top_level, parent_of, climb, meet_from, area_over, common_level}
+use Rattle.plan.specs.Plans.{is_plan, place_of, places_of, slots_of, home_of, is_lowest, top_level, parent_of, climb, meet_from, area_over, common_level}
 use Rattle.plan.specs.Tree.{nowhere}
 use Rattle.plan.specs.Walk.{area_at, walk_of}
 use Rattle.plan.proofs.Asked.{length_homes, place_read, no_parent, place_within_plan, climb_none}

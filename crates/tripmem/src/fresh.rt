@@ -47,7 +47,7 @@ pub fn fresh_listing(heap: Global, plan: &Plan) -> anyhow::Result<Vec<u8>>
     let rows = fresh_rows(heap, plan)?;
     let mut text = vec![in heap; 0u8; LINE * 64]?;
     let Ok(length) = write_listing(&rows, &mut text) else {
-        return Err(anyhow!("the listing is longer than its memory"));
+        return Err(anyhow!("\"the listing is longer than its memory\""));
     };
     text.truncate(length);
     Ok(text)
