@@ -7,28 +7,28 @@ use Rattle.state.specs.Pasts.{Points}
 use Rattle.laws.specs.Roots.{Root}
 use Rattle.laws.specs.Views.{entry, mark, mark_or_waits, stage, status}
 use Rattle.laws.specs.Invariant.{PassedBelow, lower_pass, sweeping, HasCovered, has_ended_round, pass_over, Told}
-use Rattle.laws.specs.Inductive.{Local, from_root, from_entry, from_mark, inward, Sound}
+use Rattle.laws.specs.Inductive.{LocallyCovered, from_root, from_entry, from_mark, inward, Sound}
 use Rattle.laws.proofs.Plans.{within_first, numbered_first}
 use Rattle.laws.proofs.Graphs.{SameGraph, used_back, points_back, root_back}
 use Rattle.chain.specs.Chain.{numbered}
 
 -- local cover stays in the area
-pub local_inside : (plan : Layout) (s : Memory) (a l b : ℕ) → Local plan s a l b → within plan a b ≡ true
+pub local_inside : (plan : Layout) (s : Memory) (a l b : ℕ) → LocallyCovered plan s a l b → within plan a b ≡ true
 local_inside plan s a l b (from_root inside r) = inside
 local_inside plan s a l b (from_entry m inside lm hm e) = inside
 local_inside plan s a l b (from_mark m inside lm hm e) = inside
 local_inside plan s a l b (inward q e inside u) = inside
 
-pub local_first : (plan : Layout) (s : Memory) (a l b : ℕ) → Local plan s a l b → 1 ≤ b
+pub local_first : (plan : Layout) (s : Memory) (a l b : ℕ) → LocallyCovered plan s a l b → 1 ≤ b
 local_first plan s a l b h = within_first plan a b (local_inside plan s a l b h)
 
--- Local cover goes back where roots, pointers, blocks, entries and marks do.
+-- LocallyCovered cover goes back where roots, pointers, blocks, entries and marks do.
 pub local_back : (plan : Layout) (s t : Memory) (a l : ℕ) →
-    ((b : ℕ) → within plan a b ≡ true → Root t b → Local plan s a l b) → ((p b : ℕ) → Points t p b → Points s p b) →
+    ((b : ℕ) → within plan a b ≡ true → Root t b → LocallyCovered plan s a l b) → ((p b : ℕ) → Points t p b → Points s p b) →
     ((b : ℕ) → within plan a b ≡ true → is_some (block_at t b) ≡ true → is_some (block_at s b) ≡ true) →
     ((b m : ℕ) → within plan a b ≡ true → l < m → m ≤ top plan → entry t b m ≡ true → entry s b m ≡ true) →
     ((b m : ℕ) → within plan a b ≡ true → 2 ≤ m → m ≤ l → mark t b m l ≡ true → mark s b m l ≡ true) →
-    (b : ℕ) → Local plan t a l b → Local plan s a l b
+    (b : ℕ) → LocallyCovered plan t a l b → LocallyCovered plan s a l b
 local_back plan s t a l roots points used entries marks b (from_root inside r) = roots b inside r
 local_back plan s t a l roots points used entries marks b (from_entry m inside lm hm e) = from_entry m inside lm hm (entries b m inside lm hm e)
 local_back plan s t a l roots points used entries marks b (from_mark m inside lm hm e) = from_mark m inside lm hm (marks b m inside lm hm e)
@@ -39,7 +39,7 @@ local_back plan s t a l roots points used entries marks b (inward {b = p} q e in
 pub local_graph : (plan : Layout) (s t : Memory) (a l : ℕ) → SameGraph s t →
     ((b m : ℕ) → within plan a b ≡ true → l < m → m ≤ top plan → entry t b m ≡ true → entry s b m ≡ true) →
     ((b m : ℕ) → within plan a b ≡ true → 2 ≤ m → m ≤ l → mark t b m l ≡ true → mark s b m l ≡ true) →
-    (b : ℕ) → Local plan t a l b → Local plan s a l b
+    (b : ℕ) → LocallyCovered plan t a l b → LocallyCovered plan s a l b
 local_graph plan s t a l g =
     local_back plan s t a l (λ b inside r. from_root inside (root_back s t g b r)) (points_back s t g) (λ b _ u. sym (used_back s t g b) ∙ u)
 

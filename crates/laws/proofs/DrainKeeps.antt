@@ -11,7 +11,7 @@ use Rattle.state.specs.Memory.{Memory, World}
 use Rattle.state.specs.Turns.{marking_above, settable, newly_marked, restarted}
 use Rattle.laws.specs.Views.{white, black, entry, mark, mark_or_waits, stage, status, sends, marks_above}
 use Rattle.laws.specs.Invariant.{Told, HasCovered, has_ended_round, pass_over, SomeWaits}
-use Rattle.laws.specs.Inductive.{Local, Sound, Safe}
+use Rattle.laws.specs.Inductive.{LocallyCovered, Sound, Safe}
 use Rattle.laws.proofs.Plans.{within_first, numbered_first, outside, by_area}
 use Rattle.laws.proofs.Graphs.{SameGraph, used_back, points_back, root_back, reach_back}
 use Rattle.laws.proofs.Parts.{Drains, newly_marked_lem}
@@ -117,15 +117,15 @@ module _ (plan : Layout) (law : Lawful plan) (a : ℕ) (low : lowest plan a ≡ 
   told_after : (l : ℕ) → l ≤ top plan → (P Q : ℕ → Type 0) → ((b : ℕ) → Q b → P b) → Told plan w l P → Told plan v l Q
   told_after l hl = told_same plan w v sound (points_back was is drain.graph) entry_is l (λ b m hb lm ml. mark_after b m l hb lm ml hl)
 
-  locally_back : (e l : ℕ) → ((b m : ℕ) → within plan e b ≡ true → 2 ≤ m → m ≤ l → mark is b m l ≡ true → mark was b m l ≡ true) → (b : ℕ) → Local plan is e l b → Local plan was e l b
+  locally_back : (e l : ℕ) → ((b m : ℕ) → within plan e b ≡ true → 2 ≤ m → m ≤ l → mark is b m l ≡ true → mark was b m l ≡ true) → (b : ℕ) → LocallyCovered plan is e l b → LocallyCovered plan was e l b
   locally_back e l marks = local_graph plan was is e l drain.graph (λ b m inside lm hm there. sym (entry_is b m (within_first plan e b inside)) ∙ there) marks
 
   -- In the area itself no mark of the level was waiting; elsewhere nothing changed.
-  covered_here : (l : ℕ) → 2 ≤ l → l ≤ top plan → marks_above plan was a l ≡ true → HasCovered is a l → SomeWaits plan v a l ⊎ Told plan v l (Local plan is a l)
+  covered_here : (l : ℕ) → 2 ≤ l → l ≤ top plan → marks_above plan was a l ≡ true → HasCovered is a l → SomeWaits plan v a l ⊎ Told plan v l (LocallyCovered plan is a l)
   covered_here l ll hl above over =
       ⊎_elim
       (λ (some : SomeWaits plan w a l). absurd (none some.0 some.1.0 some.1.1.0 some.1.1.1))
-      (λ (told : Told plan w l (Local plan was a l)). inr (told_after l hl (Local plan was a l) (Local plan is a l) (locally_back a l marks) told))
+      (λ (told : Told plan w l (LocallyCovered plan was a l)). inr (told_after l hl (LocallyCovered plan was a l) (LocallyCovered plan is a l) (locally_back a l marks) told))
       (safe.covered a l low ll hl above (covered_back a l low ll hl over))
     where
       none : (b m : ℕ) → within plan a b ≡ true → w.waits b m l ≡ true → ⊥
@@ -139,11 +139,11 @@ module _ (plan : Layout) (law : Lawful plan) (a : ℕ) (low : lowest plan a ≡ 
           (mark_back b m l (within_first plan a b inside) lm ml hl set)
 
   covered_elsewhere : (e l : ℕ) → lowest plan e ≡ true → 2 ≤ l → l ≤ top plan → marks_above plan was e l ≡ true → HasCovered is e l → (e ≡ a → ⊥) →
-      SomeWaits plan v e l ⊎ Told plan v l (Local plan is e l)
+      SomeWaits plan v e l ⊎ Told plan v l (LocallyCovered plan is e l)
   covered_elsewhere e l le ll hl above over ne =
       ⊎_elim
       (λ (some : SomeWaits plan w e l). inl (some.0, (some.1.0, (some.1.1.0, still some.0 some.1.0 some.1.1.0 some.1.1.1))))
-      (λ (told : Told plan w l (Local plan was e l)). inr (told_after l hl (Local plan was e l) (Local plan is e l) (locally_back e l marks) told))
+      (λ (told : Told plan w l (LocallyCovered plan was e l)). inr (told_after l hl (LocallyCovered plan was e l) (LocallyCovered plan is e l) (locally_back e l marks) told))
       (safe.covered e l le ll hl above (covered_back e l le ll hl over))
     where
       still : (b m : ℕ) → within plan e b ≡ true → w.waits b m l ≡ true → v.waits b m l ≡ true
@@ -197,7 +197,7 @@ module _ (plan : Layout) (law : Lawful plan) (a : ℕ) (low : lowest plan a ≡ 
             (λ x d. (d.0, sym (black_is e x d.0) ∙ d.1))
             (safe.scanned e l L le ll hl (sym (above_is e l) ∙ above) (status_back Begun (unstarted_begun Unstarted refl) e l le ll hl b) (stage_was e le at) h);
         covered = λ e l le ll hl above over.
-            by_area (λ x. lowest plan x ≡ true → marks_above plan was x l ≡ true → HasCovered is x l → SomeWaits plan v x l ⊎ Told plan v l (Local plan is x l)) a e
+            by_area (λ x. lowest plan x ≡ true → marks_above plan was x l ≡ true → HasCovered is x l → SomeWaits plan v x l ⊎ Told plan v l (LocallyCovered plan is x l)) a e
             (λ _ up done. covered_here l ll hl up done)
             (λ ne lx up done. covered_elsewhere e l lx ll hl up done ne)
             le (sym (above_is e l) ∙ above) over;

@@ -8,7 +8,7 @@ use Rattle.state.specs.Pasts.{Points}
 use Rattle.laws.specs.Roots.{Root, Reach, root, step}
 use Rattle.laws.specs.Views.{white, black, entry, mark, mark_or_waits, stage, status, sends, marks_above}
 use Rattle.laws.specs.Invariant.{Told}
-use Rattle.laws.specs.Inductive.{Local, from_root, Sound, Safe}
+use Rattle.laws.specs.Inductive.{LocallyCovered, from_root, Sound, Safe}
 use Rattle.laws.proofs.Plans.{within_first, numbered_first}
 use Rattle.laws.proofs.Reached.{reached_first}
 use Rattle.laws.proofs.Flags.{stays_false}
@@ -61,7 +61,7 @@ module _ (plan : Layout) (law : Lawful plan) (w v : World) (sound : Sound plan w
   marked_or_waiting : (b m l : ℕ) → 1 ≤ b → mark_or_waits w b m l ≡ true → mark_or_waits v b m l ≡ true
   marked_or_waiting b m l h = mark_or_waits_lem w v b m l (λ set. g.marks b m l h ∙ set) (g.waiting b m l)
 
-  local : (a l b : ℕ) → Local plan v.memory a l b → Local plan w.memory a l b
+  local : (a l b : ℕ) → LocallyCovered plan v.memory a l b → LocallyCovered plan w.memory a l b
   local a l =
       local_back plan w.memory v.memory a l (λ b inside r. from_root inside (g.roots b r)) g.points
       (λ b inside there. sym (g.used b (within_first plan a b inside)) ∙ there)
@@ -108,7 +108,7 @@ module _ (plan : Layout) (law : Lawful plan) (w v : World) (sound : Sound plan w
     covered = λ a l low lo hi up h.
         elim (safe.covered a l low lo hi (marks_above_lem a l ∙ up) (covered_same w.memory v.memory a l (sym (stage_is a)) (sym (status_is a l)) h)) [
           | inl (b, (m, (inside, waits))) ↦ inl (b, (m, (inside, g.waiting b m l waits)))
-          | inr all ↦ inr (told l (Local plan w.memory a l) (Local plan v.memory a l) (local a l) all)
+          | inr all ↦ inr (told l (LocallyCovered plan w.memory a l) (LocallyCovered plan v.memory a l) (local a l) all)
         ];
     kept = λ a p b l low lo hi up e inside r q at.
         marked_or_waiting b l l (within_first plan a b inside) (safe.kept a p b l low lo hi (marks_above_lem a l ∙ up) (status_is a l ∙ e) inside (reach p r) (g.points p b q) at);

@@ -17,7 +17,7 @@ use Rattle.state.specs.Pasts.{Points}
 use Rattle.laws.specs.Roots.{Root, from_register, on_hold, Reach, root, step}
 use Rattle.laws.specs.Views.{white_in, black_in, entry_in, mark_in, white, black, entry, mark, mark_or_waits, stage, status, sends, marks_above}
 use Rattle.laws.specs.Invariant.{Told}
-use Rattle.laws.specs.Inductive.{Local, from_root, from_entry, from_mark, inward, Sound, Safe}
+use Rattle.laws.specs.Inductive.{LocallyCovered, from_root, from_entry, from_mark, inward, Sound, Safe}
 use Rattle.laws.proofs.Plans.{low_first, low_numbered, within_first, numbered_first, within_numbered, by_area}
 use Rattle.laws.proofs.Frames.{slot_set, slot_set_other, collector_at_lem, collector_other, get_or_filled}
 use Rattle.laws.proofs.Reached.{reached_first}
@@ -112,7 +112,7 @@ module _ (plan : Layout) (n b : ℕ) (w v : World) (sound : Sound plan w.memory)
       told_is y (level_of plan x y) l (pointed_first x y old) ∙ told x y p old two low (sym (entry_is plan n b s t h y (level_of plan x y) (pointed_first x y old)) ∙ there)
 
   -- the new block alone is locally covered and was not
-  local_was : (a l x : ℕ) → Local plan t a l x → Local plan s a l x ⊎ (x ≡ b)
+  local_was : (a l x : ℕ) → LocallyCovered plan t a l x → LocallyCovered plan s a l x ⊎ (x ≡ b)
   local_was a l x (from_root i r) = elim (h.roots x r) [ inl old ↦ inl (from_root i old) | inr new ↦ inr new ]
   local_was a l x (from_entry m i lm mt e) = inl (from_entry m i lm mt (sym (entry_is plan n b s t h x m (within_first plan a x i)) ∙ e))
   local_was a l x (from_mark m i lm ml e) = inl (from_mark m i lm ml (sym (mark_is plan n b s t h x m l (within_first plan a x i)) ∙ e))
@@ -172,7 +172,7 @@ module _ (plan : Layout) (n b : ℕ) (w v : World) (sound : Sound plan w.memory)
         (safe.scanned a l L low two lt (sym (marking_is a l) ∙ marking) (sym (h.status_is a l low) ∙ begun) (was a low e) lL);
     covered = λ a l low two lt marking over. elim (safe.covered a l low two lt (sym (marking_is a l) ∙ marking) (covered_same s t a l (h.stage_is a low) (h.status_is a l low) over)) [
       | inl some ↦ inl (some.0, (some.1.0, (some.1.1.0, ap (λ f. f some.0 some.1.0 l) same ∙ some.1.1.1)))
-      | inr told ↦ inr (told_on l (Local plan s a l) (Local plan t a l) (local_pointing a l) told)
+      | inr told ↦ inr (told_on l (LocallyCovered plan s a l) (LocallyCovered plan t a l) (local_pointing a l) told)
     ];
     kept = λ a x y l low two lt recovering unstarted i r q level.
         let (reached, old) = pointing_was x y r q in
@@ -182,7 +182,7 @@ module _ (plan : Layout) (n b : ℕ) (w v : World) (sound : Sound plan w.memory)
       was : {g : Stage} (a : ℕ) → lowest plan a ≡ true → stage t a ≡ g → stage s a ≡ g
       was a low e = sym (h.stage_is a low) ∙ e
 
-      local_pointing : (a l x y : ℕ) → Local plan t a l x → Points t x y → Local plan s a l x × Points s x y
+      local_pointing : (a l x y : ℕ) → LocallyCovered plan t a l x → Points t x y → LocallyCovered plan s a l x × Points s x y
       local_pointing a l x y d e = elim (local_was a l x d) [
         | inl old ↦ (old, points_back plan n b s t h x y (local_first plan t a l x d) e)
         | inr new ↦ absurd (no_pointer plan n b s t h y (subst (λ z. Points t z y) new e))

@@ -9,7 +9,7 @@ use Rattle.state.specs.Pasts.{Points}
 use Rattle.laws.specs.Roots.{Reach}
 use Rattle.laws.specs.Views.{white, black, entry, mark, mark_or_waits, stage, status, sends, marks_above}
 use Rattle.laws.specs.Invariant.{Told, HasCovered, SomeWaits}
-use Rattle.laws.specs.Inductive.{Local, Sound, Safe}
+use Rattle.laws.specs.Inductive.{LocallyCovered, Sound, Safe}
 use Rattle.laws.proofs.Plans.{within_first, numbered_first, one_home, by_area}
 use Rattle.laws.proofs.Graphs.{SameGraph, used_back, points_back, root_back, reach_back}
 use Rattle.laws.proofs.Parts.{SameMarks, OnlyArea}
@@ -42,7 +42,7 @@ pub record AreaSafe (plan : Layout) (w : World) (a : ℕ) : Type 0 where
   pub swept_entered : (b k m : ℕ) → stage w.memory a ≡ Sweep k → within plan a b ≡ true → k ≤ b → 2 ≤ m → m ≤ top plan → entry w.memory b m ≡ true → white w.memory b ≡ false
   pub scanned : (l L : ℕ) → 2 ≤ l → l ≤ top plan → marks_above plan w.memory a l ≡ true → status w.memory a l ≡ Begun → stage w.memory a ≡ Pass L → l ≤ L →
       Told plan w l (λ b. (within plan a b ≡ true) × (black w.memory b ≡ true))
-  pub covered : (l : ℕ) → 2 ≤ l → l ≤ top plan → marks_above plan w.memory a l ≡ true → HasCovered w.memory a l → SomeWaits plan w a l ⊎ Told plan w l (Local plan w.memory a l)
+  pub covered : (l : ℕ) → 2 ≤ l → l ≤ top plan → marks_above plan w.memory a l ≡ true → HasCovered w.memory a l → SomeWaits plan w a l ⊎ Told plan w l (LocallyCovered plan w.memory a l)
 
 module _ (plan : Layout) (law : Lawful plan) (a : ℕ) (low : lowest plan a ≡ true) (L : ℕ) (w v : World) (sound : Sound plan w.memory) (safe : Safe plan w) (d : PassStep plan a L w v) where
   -- what is not white stays so
@@ -70,16 +70,16 @@ module _ (plan : Layout) (law : Lawful plan) (a : ℕ) (low : lowest plan a ≡ 
   pub told_back : (l : ℕ) (P Q : ℕ → Type 0) → ((b : ℕ) → Q b → P b) → Told plan w l P → Told plan v l Q
   told_back l = told_same plan w v sound (points_back w.memory v.memory d.graph) d.marks.entry_is l (λ b m one _ _. told_stays b m l one)
 
-  local_was : (e l b : ℕ) → Local plan v.memory e l b → Local plan w.memory e l b
+  local_was : (e l b : ℕ) → LocallyCovered plan v.memory e l b → LocallyCovered plan w.memory e l b
   local_was e l =
       local_graph plan w.memory v.memory e l d.graph
       (λ b m inside _ _ there. sym (d.marks.entry_is b m (within_first plan e b inside)) ∙ there)
       (λ b m inside _ _ set. sym (d.marks.mark_is b m l (within_first plan e b inside)) ∙ set)
 
   -- what was covered stays so
-  pub covered_stays : (e l : ℕ) → SomeWaits plan w e l ⊎ Told plan w l (Local plan w.memory e l) → SomeWaits plan v e l ⊎ Told plan v l (Local plan v.memory e l)
+  pub covered_stays : (e l : ℕ) → SomeWaits plan w e l ⊎ Told plan w l (LocallyCovered plan w.memory e l) → SomeWaits plan v e l ⊎ Told plan v l (LocallyCovered plan v.memory e l)
   covered_stays e l (inl (b, (m, (inside, waits)))) = inl (b, (m, (inside, d.waits_stay b m l waits)))
-  covered_stays e l (inr told) = inr (told_back l (Local plan w.memory e l) (Local plan v.memory e l) (local_was e l) told)
+  covered_stays e l (inr told) = inr (told_back l (LocallyCovered plan w.memory e l) (LocallyCovered plan v.memory e l) (local_was e l) told)
 
   black_is : (e b : ℕ) → lowest plan e ≡ true → (e ≡ a → ⊥) → within plan e b ≡ true → black v.memory b ≡ black w.memory b
   black_is e b le ne inside = d.black_outside b (within_first plan e b inside) (λ here. ne (one_home plan law e a b le low inside here))

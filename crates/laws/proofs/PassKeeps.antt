@@ -12,7 +12,7 @@ use Rattle.state.specs.Turns.{on_memory, pass_begun, lowest_grey, scanned_at, pa
 use Rattle.laws.specs.Roots.{Reach, root, step}
 use Rattle.laws.specs.Views.{white_in, black_in, entry_in, mark_in, white, black, entry, mark, stage, status, sends, marks_above}
 use Rattle.laws.specs.Invariant.{Told, PassedBelow, lower_pass, sweeping, HasCovered, has_ended_round, pass_over, SomeWaits}
-use Rattle.laws.specs.Inductive.{Local, from_root, from_entry, from_mark, inward, Sound, Safe}
+use Rattle.laws.specs.Inductive.{LocallyCovered, from_root, from_entry, from_mark, inward, Sound, Safe}
 use Rattle.laws.proofs.Plans.{within_bounds, within_first, within_numbered, pointer_together}
 use Rattle.laws.proofs.Graphs.{graph_same, points_back, reach_back}
 use Rattle.laws.proofs.Parts.{by_entry, by_mark, PassBegins, pass_begins, grey_found, no_grey, Moves, sweep_begins}
@@ -44,7 +44,7 @@ module _ (plan : Layout) (law : Lawful plan) (a : ℕ) (low : lowest plan a ≡ 
     dark_black = no_grey plan law a low w.memory sound.shape none
 
     -- local cover at the level of the pass stays inside the black blocks
-    local_black : (b : ℕ) → Local plan w.memory a L b → (within plan a b ≡ true) × (black w.memory b ≡ true)
+    local_black : (b : ℕ) → LocallyCovered plan w.memory a L b → (within plan a b ≡ true) × (black w.memory b ≡ true)
     local_black b (from_root inside r) = (inside, dark_black b inside (safe.alive b (root r)) (safe.rooted a b L low was inside r))
     local_black b (from_entry m inside more most there) =
         (inside, dark_black b inside (entry_used (block_at w.memory b) m there) (safe.shaded_by_entry a b m L low was inside more most there))
@@ -57,11 +57,11 @@ module _ (plan : Layout) (law : Lawful plan) (a : ℕ) (low : lowest plan a ≡ 
 
     -- at the level of the pass, all that is covered has told of its pointers; at the levels above it has done so before
     covered_now : (l : ℕ) → 2 ≤ l → l ≤ top plan → marks_above plan w.memory a l ≡ true → status w.memory a l ≡ Begun → L ≤ l →
-        SomeWaits plan w a l ⊎ Told plan w l (Local plan w.memory a l)
+        SomeWaits plan w a l ⊎ Told plan w l (LocallyCovered plan w.memory a l)
     covered_now l two most marking is least =
         elim (cases_lt L l) [
           | inl more ↦ safe.covered a l low two most marking (pass_over is (lower_pass L was more))
-          | inr upto ↦ inr (λ b c here. safe.scanned a l L low two most marking is was upto b c (local_black b (subst (λ n. Local plan w.memory a n b) (omega (arith, upto, least)) here)))
+          | inr upto ↦ inr (λ b c here. safe.scanned a l L low two most marking is was upto b c (local_black b (subst (λ n. LocallyCovered plan w.memory a n b) (omega (arith, upto, least)) here)))
         ]
 
     -- in pass 1 no reachable block of the area is white: it is a root, or has an entry, or a reachable block of the area, black by now, points to it
@@ -79,13 +79,13 @@ module _ (plan : Layout) (law : Lawful plan) (a : ℕ) (low : lowest plan a ≡ 
 
     -- what the area has covered when it has left the pass
     covered_left : (v : World) (d : PassStep plan a L w v) → ((l : ℕ) → 2 ≤ l → PassedBelow v.memory a l → L ≤ l) →
-        (l : ℕ) → 2 ≤ l → l ≤ top plan → marks_above plan v.memory a l ≡ true → HasCovered v.memory a l → SomeWaits plan v a l ⊎ Told plan v l (Local plan v.memory a l)
+        (l : ℕ) → 2 ≤ l → l ≤ top plan → marks_above plan v.memory a l ≡ true → HasCovered v.memory a l → SomeWaits plan v a l ⊎ Told plan v l (LocallyCovered plan v.memory a l)
     covered_left v d left l two most marking has = covered_stays plan law a low L w v sound safe d a l (before has)
       where
         was_marking : marks_above plan w.memory a l ≡ true
         was_marking = sym (marking_is plan law a low L w v sound safe d a l) ∙ marking
 
-        before : HasCovered v.memory a l → SomeWaits plan w a l ⊎ Told plan w l (Local plan w.memory a l)
+        before : HasCovered v.memory a l → SomeWaits plan w a l ⊎ Told plan w l (LocallyCovered plan w.memory a l)
         before (has_ended_round is) = safe.covered a l low two most was_marking (has_ended_round (sym (d.status_is l) ∙ is))
         before (pass_over is passed) = covered_now l two most was_marking (sym (d.status_is l) ∙ is) (left l two passed)
 

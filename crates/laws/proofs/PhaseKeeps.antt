@@ -15,7 +15,7 @@ use Rattle.state.specs.Pasts.{Points}
 use Rattle.laws.specs.Roots.{Reach, root, step}
 use Rattle.laws.specs.Views.{black, mark_or_waits, stage, sends, marks_above, mark, status}
 use Rattle.laws.specs.Invariant.{Told, sweeping, HasCovered, has_ended_round, pass_over, SomeWaits}
-use Rattle.laws.specs.Inductive.{Local, from_root, from_entry, from_mark, inward, Sound, Safe}
+use Rattle.laws.specs.Inductive.{LocallyCovered, from_root, from_entry, from_mark, inward, Sound, Safe}
 use Rattle.laws.proofs.Plans.{numbered_first, within_bounds, within_numbered, inside_level, one_home, pointer_together, by_area, within_over}
 use Rattle.laws.proofs.Graphs.{SameGraph, graph_same, points_back, root_back, reach_back}
 use Rattle.laws.proofs.Parts.{round_over_lem, Changes, changes, all_ended_lem, none_waits}
@@ -45,7 +45,7 @@ module _ (plan : Layout) (w : World) (safe : Safe plan w) (t : Memory) (quiet : 
   same_graph : SameGraph w.memory t
   same_graph = graph_same w.memory t quiet.slots quiet.registers
 
-  local_was : (e l b : ℕ) → Local plan t e l b → Local plan w.memory e l b
+  local_was : (e l b : ℕ) → LocallyCovered plan t e l b → LocallyCovered plan w.memory e l b
   local_was e l = local_graph plan w.memory t e l same_graph (λ b m _ _ _ there. rw quiet.slots at there) (λ b m _ _ _ set. rw quiet.slots at set)
 
   told : (l : ℕ) (P Q : ℕ → Type 0) → ((b : ℕ) → Q b → P b) → Told plan w l P → Told plan (record { memory = t; waits = w.waits }) l Q
@@ -74,7 +74,7 @@ module _ (plan : Layout) (w : World) (safe : Safe plan w) (t : Memory) (quiet : 
             (safe.scanned e l L low lo hi was.0 was.1 (quiet.passes e L low at) ll);
         covered = λ e l low lo hi marking has.
             let was = quiet.covering e l low lo hi marking has in
-            ⊎_elim (λ (h : SomeWaits plan w e l). inl h) (λ (h : Told plan w l (Local plan w.memory e l)). inr (told l (Local plan w.memory e l) (Local plan t e l) (local_was e l) h))
+            ⊎_elim (λ (h : SomeWaits plan w e l). inl h) (λ (h : Told plan w l (LocallyCovered plan w.memory e l)). inr (told l (LocallyCovered plan w.memory e l) (LocallyCovered plan t e l) (local_was e l) h))
             (safe.covered e l low lo hi was.0 was.1);
         kept = λ e p b l low lo hi recovering unstarted i r q at. rw quiet.slots (quiet.keeping e p b l low lo hi recovering unstarted i (reach p r) (points p b q) at);
       }
@@ -160,14 +160,14 @@ module _ (plan : Layout) (law : Lawful plan) (x l : ℕ) (n : numbered (length p
     none_here e b m le under i lm hm = none_waits plan law w sound.shape x l none b m (within_numbered plan law e b le i) (within_over plan law x l n level e b le under i) lm hm
 
     -- so each area there has told of all that it has covered
-    all_told : (e : ℕ) → lowest plan e ≡ true → above plan e l ≡ x → Told plan w l (Local plan w.memory e l)
+    all_told : (e : ℕ) → lowest plan e ≡ true → above plan e l ≡ x → Told plan w l (LocallyCovered plan w.memory e l)
     all_told e le under =
         ⊎_elim
         (λ (h : SomeWaits plan w e l).
         let m = h.1.0 in
         let can = safe.settable h.0 m l h.1.1.1 in
         absurd (false≢true (sym (none_here e h.0 m le under h.1.1.0 can.1 (omega (arith, can.2, can.3, law.high.1))) ∙ h.1.1.1)))
-        (λ (h : Told plan w l (Local plan w.memory e l)). h)
+        (λ (h : Told plan w l (LocallyCovered plan w.memory e l)). h)
         (safe.covered e l le lo hi (ap is_marking (ap (phase_at w.memory) under ∙ marking)) (has_ended_round (all_ended_lem plan law w.memory sound.shape x l all e le under)))
 
     mark_set : (e b m : ℕ) → lowest plan e ≡ true → above plan e l ≡ x → within plan e b ≡ true → 2 ≤ m → m ≤ 4 → mark_or_waits w b m l ≡ true → mark w.memory b m l ≡ true
@@ -175,7 +175,7 @@ module _ (plan : Layout) (law : Lawful plan) (x l : ℕ) (n : numbered (length p
         ⊎_elim (λ (set : mark w.memory b m l ≡ true). set) (λ (waits : w.waits b m l ≡ true). absurd (false≢true (sym (none_here e b m le under i lm hm) ∙ waits))) (or_cases _ _ h)
 
     -- and every reachable block there is covered
-    reached_local : (b : ℕ) → Reach w.memory b → (e : ℕ) → lowest plan e ≡ true → above plan e l ≡ x → within plan e b ≡ true → Local plan w.memory e l b
+    reached_local : (b : ℕ) → Reach w.memory b → (e : ℕ) → lowest plan e ≡ true → above plan e l ≡ x → within plan e b ≡ true → LocallyCovered plan w.memory e l b
     reached_local b (root r) e le under i = from_root i r
     reached_local b (step {p} r q) e le under i =
         let np = reached_slot plan w.memory sound p r in

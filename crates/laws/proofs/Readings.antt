@@ -19,7 +19,7 @@ use Rattle.state.specs.Pasts.{Points}
 use Rattle.laws.specs.Roots.{Root, from_register, on_hold, Reach, root, step}
 use Rattle.laws.specs.Views.{is_black, white, white_in, black, black_in, entry, entry_in, mark, mark_in}
 use Rattle.laws.specs.Invariant.{Told, SomeWaits}
-use Rattle.laws.specs.Inductive.{Local, from_root, from_entry, from_mark, inward, Sound, Safe}
+use Rattle.laws.specs.Inductive.{LocallyCovered, from_root, from_entry, from_mark, inward, Sound, Safe}
 use Rattle.laws.proofs.Plans.{numbered_first, inside_level, one_home}
 use Rattle.laws.proofs.Frames.{block_on, block_each_any}
 use Rattle.laws.proofs.Used.{used_on}
@@ -179,7 +179,7 @@ module _ (plan : Layout) (law : Lawful plan) (w : World) (sound : Sound plan w.m
 record Joins (plan : Layout) (w : World) (c : ℕ) : Type 0 where
   reached : Reach w.memory c
   dark : white w.memory c ≡ false
-  local : (a l : ℕ) → lowest plan a ≡ true → 2 ≤ l → l ≤ top plan → within plan a c ≡ true → SomeWaits plan w a l ⊎ Local plan w.memory a l c
+  local : (a l : ℕ) → lowest plan a ≡ true → 2 ≤ l → l ≤ top plan → within plan a c ≡ true → SomeWaits plan w a l ⊎ LocallyCovered plan w.memory a l c
 
 module _ (plan : Layout) (w : World) (safe : Safe plan w) (p c : ℕ) (joins : Joins plan w c) where
   abbrev v : World
@@ -195,20 +195,20 @@ module _ (plan : Layout) (w : World) (safe : Safe plan w) (p c : ℕ) (joins : J
   reach b (root r) = elim (roots b r) [ inl was ↦ root was | inr here ↦ subst (Reach w.memory) (sym here) joins.reached ]
   reach b (step {p = q} r e) = step (reach q r) (points q b e)
 
-  local : (a l : ℕ) → (within plan a c ≡ true → Local plan w.memory a l c) → (b : ℕ) → Local plan v.memory a l b → Local plan w.memory a l b
+  local : (a l : ℕ) → (within plan a c ≡ true → LocallyCovered plan w.memory a l c) → (b : ℕ) → LocallyCovered plan v.memory a l b → LocallyCovered plan w.memory a l b
   local a l here =
       local_back plan w.memory v.memory a l
       (λ b inside r. elim (roots b r) [
         | inl was ↦ from_root inside was
-        | inr same ↦ subst (Local plan w.memory a l) (sym same) (here (subst (λ n. within plan a n ≡ true) same inside))
+        | inr same ↦ subst (LocallyCovered plan w.memory a l) (sym same) (here (subst (λ n. within plan a n ≡ true) same inside))
       ])
       points (λ b _ there. there) (λ b m _ _ _ e. e) (λ b m _ _ _ e. e)
 
   told : (l : ℕ) (P Q : ℕ → Type 0) → ((b : ℕ) → Q b → P b) → Told plan w l P → Told plan v l Q
   told l P Q back h b e q x lo hi there = h b e (back b q) (points b e x) lo hi there
 
-  covered_local : (a l : ℕ) → (within plan a c ≡ true → Local plan w.memory a l c) → Told plan w l (Local plan w.memory a l) → Told plan v l (Local plan v.memory a l)
-  covered_local a l here all = told l (Local plan w.memory a l) (Local plan v.memory a l) (local a l here) all
+  covered_local : (a l : ℕ) → (within plan a c ≡ true → LocallyCovered plan w.memory a l c) → Told plan w l (LocallyCovered plan w.memory a l) → Told plan v l (LocallyCovered plan v.memory a l)
+  covered_local a l here all = told l (LocallyCovered plan w.memory a l) (LocallyCovered plan v.memory a l) (local a l here) all
 
   root_keeps : Safe plan v
   root_keeps = record {
@@ -321,7 +321,7 @@ module _ (plan : Layout) (law : Lawful plan) (w : World) (sound : Sound plan w.m
           ))
 
   -- a pointer inside an area: its source is a root there
-  local_inside : level_of plan q c ≤ 1 → (a l : ℕ) → lowest plan a ≡ true → within plan a c ≡ true → Local plan shaded.memory a l c
+  local_inside : level_of plan q c ≤ 1 → (a l : ℕ) → lowest plan a ≡ true → within plan a c ≡ true → LocallyCovered plan shaded.memory a l c
   local_inside one a l low inside =
       let nq = sound.rooted_slots q r in
       let at = law.at_home q nq in
@@ -342,7 +342,7 @@ module _ (plan : Layout) (law : Lawful plan) (w : World) (sound : Sound plan w.m
       to_top : level_of plan q c ≤ top plan
       to_top = (law.level_within q c (sound.rooted_slots q r) numbered_c).1
 
-      crossing : (a l : ℕ) → lowest plan a ≡ true → 2 ≤ l → l ≤ top plan → within plan a c ≡ true → SomeWaits plan sent a l ⊎ Local plan sent.memory a l c
+      crossing : (a l : ℕ) → lowest plan a ≡ true → 2 ≤ l → l ≤ top plan → within plan a c ≡ true → SomeWaits plan sent a l ⊎ LocallyCovered plan sent.memory a l c
       crossing a l low from_2 hi inside =
           elim (cases_lt l (level_of plan q c)) [
             | inl below ↦ inr (from_entry (level_of plan q c) inside below to_top there)

@@ -13,7 +13,7 @@ use Rattle.state.specs.Pasts.{Points}
 use Rattle.laws.specs.Roots.{Root, Reach}
 use Rattle.laws.specs.Views.{white, black, entry, mark, mark_or_waits, stage, status, sends, marks_above}
 use Rattle.laws.specs.Invariant.{Told, lower_pass, sweeping, HasCovered, has_ended_round, pass_over, SomeWaits}
-use Rattle.laws.specs.Inductive.{Local, Sound, Safe}
+use Rattle.laws.specs.Inductive.{LocallyCovered, Sound, Safe}
 use Rattle.laws.proofs.Plans.{within_first, numbered_first, pointer_together, outside, by_area}
 use Rattle.laws.proofs.Graphs.{SameGraph, used_back, points_back, root_back, reach_back}
 use Rattle.laws.proofs.Parts.{by_mark, Drains, drains, Begins, begins}
@@ -135,17 +135,17 @@ module _ (plan : Layout) (law : Lawful plan) (a : ℕ) (low : lowest plan a ≡ 
   covered_back e l le ll hl = by_area (λ x. HasCovered is x l → HasCovered was x l) a e (covered_here_back l ll hl)
       (λ ne. covered_same was is e l (only_stage plan a was is begins.only e le ne) (only_status plan a was is begins.only e l le ne))
 
-  locally_back : (e l : ℕ) → 2 ≤ l → l ≤ top plan → (b : ℕ) → Local plan is e l b → Local plan was e l b
+  locally_back : (e l : ℕ) → 2 ≤ l → l ≤ top plan → (b : ℕ) → LocallyCovered plan is e l b → LocallyCovered plan was e l b
   locally_back e l ll hl =
       local_graph plan was is e l begins.graph
       (λ b m inside lm hm there. entry_back b m (within_first plan e b inside) (omega arith) hm there)
       (λ b m inside lm ml set. mark_back b m l (within_first plan e b inside) lm ml hl set)
 
-  covered_after : (e l : ℕ) → lowest plan e ≡ true → 2 ≤ l → l ≤ top plan → marks_above plan was e l ≡ true → HasCovered is e l → SomeWaits plan v e l ⊎ Told plan v l (Local plan is e l)
+  covered_after : (e l : ℕ) → lowest plan e ≡ true → 2 ≤ l → l ≤ top plan → marks_above plan was e l ≡ true → HasCovered is e l → SomeWaits plan v e l ⊎ Told plan v l (LocallyCovered plan is e l)
   covered_after e l le ll hl above over =
       ⊎_elim
       (λ (some : SomeWaits plan w e l). inl (some.0, (some.1.0, (some.1.1.0, same-waits some.0 some.1.0 l ∙ some.1.1.1))))
-      (λ (told : Told plan w l (Local plan was e l)). inr (told_after e l le hl above (Local plan was e l) (Local plan is e l) (locally_back e l ll hl) (local_inside plan was e l) told))
+      (λ (told : Told plan w l (LocallyCovered plan was e l)). inr (told_after e l le hl above (LocallyCovered plan was e l) (LocallyCovered plan is e l) (locally_back e l ll hl) (local_inside plan was e l) told))
       (safe.covered e l le ll hl above (covered_back e l le ll hl over))
 
   -- what was not white is not

@@ -11,7 +11,7 @@ use Rattle.state.specs.Pasts.{Points}
 use Rattle.laws.specs.Roots.{Reach, step}
 use Rattle.laws.specs.Views.{white_in, black_in, black, entry, stage, status, sends, marks_above, white}
 use Rattle.laws.specs.Invariant.{Told, sweeping, HasCovered, has_ended_round, pass_over, SomeWaits}
-use Rattle.laws.specs.Inductive.{Local, from_root, Sound, Safe}
+use Rattle.laws.specs.Inductive.{LocallyCovered, from_root, Sound, Safe}
 use Rattle.laws.proofs.Plans.{numbered_first, within_first, one_home, by_area}
 use Rattle.laws.proofs.Parts.{Sweeps, sweeps}
 use Rattle.laws.proofs.PhaseKeeps.{ended_keeps}
@@ -22,7 +22,7 @@ use Rattle.laws.proofs.Elsewhere.{collector_is, marks_above_is}
 use Rattle.laws.proofs.Swept.{Stays, dark_stays, swept_used, swept_entry, swept_mark, swept_points, swept_root, swept_reach}
 
 module _ (plan : Layout) (law : Lawful plan) (a : ℕ) (low : lowest plan a ≡ true) (s t : Memory) (k : ℕ) (inside : within plan a k ≡ true) (sw : Sweeps plan law a low k s t) where
-  local_was : (e l b : ℕ) → Local plan t e l b → Local plan s e l b
+  local_was : (e l b : ℕ) → LocallyCovered plan t e l b → LocallyCovered plan s e l b
   local_was e l =
       local_back plan s t e l (λ b i r. from_root i (swept_root plan law a low s t k sw b r)) (swept_points plan law a low s t k sw) (λ b _. swept_used plan law a low s t k sw b)
       (λ b m _ _ _. swept_entry plan law a low s t k sw b m) (λ b m _ _ _. swept_mark plan law a low s t k sw b m l)
@@ -167,7 +167,7 @@ module _ (plan : Layout) (law : Lawful plan) (a : ℕ) (low : lowest plan a ≡ 
               (safe.scanned e l L le lo hi (sym (marking_was e l) ∙ m) (sym (status_was e l le) ∙ h) was.0 ll);
           covered = λ e l le lo hi m h.
               ⊎_elim (λ (waiting : SomeWaits plan w e l). inl waiting)
-              (λ (all : Told plan w l (Local plan w.memory e l)). inr (told l (Local plan w.memory e l) (Local plan t e l) hi (local_was plan law a low w.memory t k inside sw e l) all))
+              (λ (all : Told plan w l (LocallyCovered plan w.memory e l)). inr (told l (LocallyCovered plan w.memory e l) (LocallyCovered plan t e l) hi (local_was plan law a low w.memory t k inside sw e l) all))
               (safe.covered e l le lo hi (sym (marking_was e l) ∙ m) (covering e l le h));
           kept = λ e p b l le lo hi m h i r q level.
               let same = (reached_stays b (step (reach p r) (points p b q))).mark_same l l in

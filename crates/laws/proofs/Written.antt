@@ -20,7 +20,7 @@ use Rattle.state.specs.Pasts.{Points}
 use Rattle.laws.specs.Roots.{Root, from_register, on_hold, Reach, root, step}
 use Rattle.laws.specs.Views.{is_black, white_in, black_in, entry_in, mark_in, white, black, entry, mark, mark_or_waits}
 use Rattle.laws.specs.Invariant.{Told}
-use Rattle.laws.specs.Inductive.{Local, from_root, from_entry, from_mark, inward, Sound, Safe}
+use Rattle.laws.specs.Inductive.{LocallyCovered, from_root, from_entry, from_mark, inward, Sound, Safe}
 use Rattle.laws.proofs.Plans.{within_first, numbered_first}
 use Rattle.laws.proofs.Frames.{block_each_any, get_or_filled}
 use Rattle.laws.proofs.Graphs.{reach_inside}
@@ -81,7 +81,7 @@ module _ (plan : Layout) (w : World) (sound : Sound plan w.memory) (safe : Safe 
       ]
 
   -- no block is locally covered that was not: the new pointer and the new entry lead to a root
-  local_was : (a l b : ℕ) → 2 ≤ l → Local plan after.memory a l b → Local plan w.memory a l b
+  local_was : (a l b : ℕ) → 2 ≤ l → LocallyCovered plan after.memory a l b → LocallyCovered plan w.memory a l b
   local_was a l b two (from_root i r) = from_root i (h.root_back b r)
   local_was a l b two (from_entry m i lm mt e) = elim (h.entry_back b m (within_first plan a b i) (omega (arith, two, lm)) e) [
     | inl old ↦ from_entry m i lm mt old
@@ -135,7 +135,7 @@ module _ (plan : Layout) (w : World) (sound : Sound plan w.memory) (safe : Safe 
         (λ b q. within_first plan a b q.0) (λ b q. (q.0, sym (h.black_is b) ∙ q.1)) lt (safe.scanned a l L low two lt marking begun e lL);
     covered = λ a l low two lt marking over. elim (safe.covered a l low two lt marking (covered_same w.memory after.memory a l refl refl over)) [
       | inl some ↦ inl (some.0, (some.1.0, (some.1.1.0, h.waits_on some.0 some.1.0 l some.1.1.1)))
-      | inr told ↦ inr (told_on l (Local plan w.memory a l) (Local plan after.memory a l) (local_first plan after.memory a l) (λ b. local_was a l b two) lt told)
+      | inr told ↦ inr (told_on l (LocallyCovered plan w.memory a l) (LocallyCovered plan after.memory a l) (local_first plan after.memory a l) (λ b. local_was a l b two) lt told)
     ];
     kept = λ a x b l low two lt recovering unstarted i r q level. elim (h.points_back x b (reached_first plan w.memory sound x (reach_was x r)) q) [
       | inl old ↦ told_still b l l (safe.kept a x b l low two lt recovering unstarted i (reach_was x r) old level)

@@ -11,11 +11,11 @@ use Rattle.laws.specs.Roots.{Root, Reach}
 use Rattle.laws.specs.Invariant.{Told, HasCovered, SomeWaits, FreeChain}
 
 -- Locally covered at level l in area a: what a round of the area that has ended its pass l has seen.
-pub data Local (plan : Layout) (s : Memory) (a l : ℕ) : ℕ → Type 0 where
-  from_root : {b : ℕ} → within plan a b ≡ true → Root s b → Local plan s a l b
-  from_entry : {b : ℕ} (m : ℕ) → within plan a b ≡ true → l < m → m ≤ top plan → entry s b m ≡ true → Local plan s a l b
-  from_mark : {b : ℕ} (m : ℕ) → within plan a b ≡ true → 2 ≤ m → m ≤ l → mark s b m l ≡ true → Local plan s a l b
-  inward : {b c : ℕ} → Local plan s a l b → Points s b c → within plan a c ≡ true → is_some (block_at s c) ≡ true → Local plan s a l c
+pub data LocallyCovered (plan : Layout) (s : Memory) (a l : ℕ) : ℕ → Type 0 where
+  from_root : {b : ℕ} → within plan a b ≡ true → Root s b → LocallyCovered plan s a l b
+  from_entry : {b : ℕ} (m : ℕ) → within plan a b ≡ true → l < m → m ≤ top plan → entry s b m ≡ true → LocallyCovered plan s a l b
+  from_mark : {b : ℕ} (m : ℕ) → within plan a b ≡ true → 2 ≤ m → m ≤ l → mark s b m l ≡ true → LocallyCovered plan s a l b
+  inward : {b c : ℕ} → LocallyCovered plan s a l b → Points s b c → within plan a c ≡ true → is_some (block_at s c) ≡ true → LocallyCovered plan s a l c
 
 -- The tables of a memory stand: lengths, free chains, pointers that name slots, stages inside their bounds.
 pub record Sound (plan : Layout) (s : Memory) : Type 0 where
@@ -64,7 +64,7 @@ pub record Safe (plan : Layout) (w : World) : Type 0 where
       Told plan w l (λ b. (within plan a b ≡ true) × (black w.memory b ≡ true))
   -- after its pass l an area has told of all that it has covered, or is told to begin again
   pub covered : (a l : ℕ) → lowest plan a ≡ true → 2 ≤ l → l ≤ top plan → marks_above plan w.memory a l ≡ true → HasCovered w.memory a l →
-      SomeWaits plan w a l ⊎ Told plan w l (Local plan w.memory a l)
+      SomeWaits plan w a l ⊎ Told plan w l (LocallyCovered plan w.memory a l)
   -- while the area above recovers and this one has not begun: entries that a reachable pointer needs are marked, or their mark waits
   pub kept : (a p b l : ℕ) → lowest plan a ≡ true → 2 ≤ l → l ≤ top plan → marks_above plan w.memory a l ≡ false →
       status w.memory a l ≡ Unstarted → within plan a b ≡ true →
