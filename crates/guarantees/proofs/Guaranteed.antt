@@ -10,7 +10,7 @@ use Rattle.state.proofs.Lawful.{layouts_are_lawful}
 use Rattle.guarantees.specs.Picks.{NoTakenMarkIsDropped, PickedPastsArePasts, SameCallsSameEnd, TurnsGoOnAPast}
 use Rattle.laws.proofs.Kept.{invariant_past}
 use Rattle.guarantees.proofs.Continued.{turns_go_on}
-use Rattle.guarantees.proofs.Reachable.{reached_by_rules, reached_slot, recovers_slot}
+use Rattle.guarantees.proofs.Reachable.{reached_by_rules, reached_at, recovers_slot}
 use Rattle.guarantees.proofs.Picked.{picked_past, same_end, taken_marks_are_set}
 use Rattle.laws.proofs.Stands.{kept_blocks_stand}
 use Rattle.laws.proofs.TopEntries.{top_past}
@@ -23,7 +23,7 @@ use Rattle.laws.proofs.Markings.{markings_end}
 pub no_reachable_block_is_recovered : NoCallRecovers Reach
 no_reachable_block_is_recovered areas plan size w past c b reach recovers =
     let law = layouts_are_lawful areas plan in
-    let slot = reached_slot w.memory reach in
+    let slot = reached_at w.memory reach in
     kept_blocks_stand (layout_of areas) size w (invariant_past (layout_of areas) law size w past) c slot.number slot.reached
     (recovers_slot w.memory (answered (layout_of areas) size c w).world.memory slot.number b slot.same recovers)
 

@@ -22,12 +22,12 @@ pub record ReachedSlot (s : Memory) (b : ℕ) : Type 0 where
 same_block : (s : Memory) (a b : ℕ) → place a ≡ place b → block_at s a ≡ block_at s b
 same_block s a b e = ap (λ i. (get_or s.slots i (free_slot 0)).block) e
 
-pub reached_slot : (s : Memory) {b : ℕ} → Reach s b → ReachedSlot s b
-reached_slot s (root (from_register {b = b} r is e)) = record { number = b; same = refl; reached = roots.root (roots.from_register r is e) }
-reached_slot s (root (on_hold {b = zero} k e h)) = record { number = 1; same = refl; reached = roots.root (roots.on_hold k (omega arith) e h) }
-reached_slot s (root (on_hold {b = suc b} k e h)) = record { number = suc b; same = refl; reached = roots.root (roots.on_hold k (omega arith) e h) }
-reached_slot s (step {p = p} {b = b} r q) =
-    let before = reached_slot s r in
+pub reached_at : (s : Memory) {b : ℕ} → Reach s b → ReachedSlot s b
+reached_at s (root (from_register {b = b} r is e)) = record { number = b; same = refl; reached = roots.root (roots.from_register r is e) }
+reached_at s (root (on_hold {b = zero} k e h)) = record { number = 1; same = refl; reached = roots.root (roots.on_hold k (omega arith) e h) }
+reached_at s (root (on_hold {b = suc b} k e h)) = record { number = suc b; same = refl; reached = roots.root (roots.on_hold k (omega arith) e h) }
+reached_at s (step {p = p} {b = b} r q) =
+    let before = reached_at s r in
     record {
       number = b;
       same = refl;

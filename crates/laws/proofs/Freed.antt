@@ -1,6 +1,6 @@
 -- Only the sweep of a white block takes a block out of its slot.
-use Rattle.std.proofs.Common.{◌≡◌, ℕ, ◌-◌, ◌≤◌, true, ltb, leb, ◌⊎◌, set, Some, None, Option, refl, ap, ◌∙◌, inl, inr, ⊎_elim}
-use Rattle.std.proofs.lemmas.Bool.{cond_both, cases_eq, leb-true}
+use Rattle.std.proofs.Common.{◌≡◌, ℕ, ◌-◌, ◌≤◌, true, false, ltb, leb, ◌⊎◌, set, is_some, Some, None, Option, sym, refl, ap, ◌∙◌, subst, inl, inr, ⊎_elim, arith}
+use Rattle.std.proofs.lemmas.Bool.{cond_both, cases_eq, leb-true, le-leb, and_from, false≢true}
 use Rattle.chain.specs.Chain.{place}
 use Rattle.state.specs.declared.word.Word.{Word}
 use Rattle.state.specs.declared.word.Word.TheVariants.{Number, Pointer}
@@ -8,13 +8,14 @@ use Rattle.state.specs.declared.block.Block.{Block}
 use Rattle.state.specs.declared.block.Colour.TheVariants.{White}
 use Rattle.state.specs.declared.collector.Stage.{Stage}
 use Rattle.state.specs.declared.collector.Stage.TheVariants.{Resting, Pass, Sweep}
-use Rattle.state.specs.Layout.{Layout, lowest, last_of, level_of}
+use Rattle.state.specs.Layout.{Layout, lowest, first_in, last_of, level_of, within}
 use Rattle.state.specs.Blocks.{new_block, coloured, is_white, shade, with_word, with_entry}
 use Rattle.state.specs.Holds.{held_block, unheld_block}
 use Rattle.state.specs.Memory.{Memory, World, block_at, link_at, collector_at, with_registers, on_block}
 use Rattle.state.specs.Turns.{on_memory, lowest_grey, scanned_at, pass_turn, slot_swept, swept_on, turn_at}
 use Rattle.state.specs.Calls
 use Rattle.state.specs.Calls.{Call, answered}
+use Rattle.state.specs.Pasts.{Recovers}
 use Rattle.laws.specs.Views.{white, white_in, stage}
 use Rattle.laws.proofs.ByCall.{by_call}
 use Rattle.laws.proofs.Used.{used, used_on, used_set, used_filled, used_started, used_begun, used_scanned, used_ended}
@@ -93,3 +94,18 @@ module _ (plan : Layout) (w : World) (b : ℕ) (u : used w.memory b ≡ true) wh
         turn = λ a low. turn_at_lem a low (stage w.memory a) refl;
       })
       size c
+
+-- a block that is not white where a sweep can come to it stands
+pub grey_stands : (plan : Layout) (size : ℕ) (w : World) (b : ℕ) → 1 ≤ b →
+    ((a k : ℕ) → lowest plan a ≡ true → stage w.memory a ≡ Sweep k → first_in plan a ≤ k) →
+    ((a k : ℕ) → lowest plan a ≡ true → stage w.memory a ≡ Sweep k → within plan a b ≡ true → k ≤ b → white w.memory b ≡ false) →
+    (c : Call) → Recovers w.memory (answered plan size c w).world.memory b → ⊥
+grey_stands plan size w b low first grey c (was, gone) =
+    ⊎_elim
+    (λ (u : used (answered plan size c w).world.memory b ≡ true). false≢true (ap is_some (sym gone) ∙ u))
+    (λ (sw : SweptWhite plan w.memory b).
+    let from = first sw.area sw.at sw.low sw.sweeps in
+    let same : b ≡ sw.at = omega (arith, sw.here, low, from) in
+    let here : within plan sw.area b ≡ true = and_from _ _ (le-leb _ _ (subst (λ k. first_in plan sw.area ≤ k) (sym same) from)) (le-leb _ _ (subst (λ k. k ≤ last_of plan sw.area) (sym same) sw.inside)) in
+    false≢true (sym (grey sw.area sw.at sw.low sw.sweeps here (omega (arith, same))) ∙ ap (white w.memory) same ∙ sw.white_there))
+    (kept_or_swept plan w b (ap is_some was.1) size c)

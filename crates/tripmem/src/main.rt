@@ -9,6 +9,7 @@ use plan::{Plan, Refusal};
 use std::fs;
 use std::io::{Read, Write};
 
+// A message carries its quotation marks itself: what `main` answers is printed bare.
 fn run(rt: &HostRuntime) -> anyhow::Result<()> {
     let heap = rt.alloc();
     let bytes = fs::read(rt, "plan")?;
