@@ -1,11 +1,13 @@
-use Rattle.std.proofs.Common.{◌≡◌, ℕ, zero, suc, ◌+◌, ◌-◌, ◌<◌, ◌≤◌, true, false, eqb, leb, ◌≢◌, List, [], ◌∷◌, map, length, get_or, set, Some, None, Option, sym, refl, ap, ◌∙◌, subst, inl, inr, add-one, arith}
+use Rattle.std.proofs.Common.{◌≡◌, ℕ, zero, suc, ◌+◌, ◌-◌, ◌<◌, ◌≤◌, Bool, cond, true, false, eqb, leb, ◌≢◌, List, [], ◌∷◌, map, length, get_or, set, Some, None, Option, is_some, ◌==◌, sym, refl, ap, ◌∙◌, subst, inl, inr, add-one, arith}
 use Rattle.std.proofs.lemmas.List.{length-set, get_or-set_same, get_or-set_other, length-map, get_or-map}
+use Rattle.std.proofs.lemmas.Grind.{common_steps}
 use Rattle.std.proofs.lemmas.Bool.{cond_both, eq-eqb, ne_eqb, eqb-true, eqb-false, and_parts, and_from, leb-true, le-leb, both_ways, cases_eq, cases_Bool, cond-true, cond-false}
 use Rattle.chain.specs.Chain.{place, numbered, link_of, changed, relink, Chain, Absent, without, among}
 use Rattle.chain.specs.Chain.{put_table, PutsFirst, first_in, rest_of, TakesFirst, Taken}
-use Rattle.chain.specs.Chain.{before, spot_behind, spot_of, out_table, out_head, is_there, TakesOut}
+use Rattle.std.specs.Option.{option_map}
+use Rattle.std.specs.List.{find, slice_get}
+use Rattle.chain.specs.Chain.{visits, before, spot_behind, spot_of, behind_table, out_table, out_head, is_there, TakesOut}
 use Rattle.chain.specs.declared.Spot.{Spot}
-use Rattle.chain.specs.declared.Spot.TheVariants.{First, Behind, Nowhere}
 
 -- Numbers
 
@@ -236,11 +238,26 @@ before_chain links i z (k ∷ ks) n j c l =
           (found_on links i j k ks _ ne c (before_chain links i z ks (n - 1) k d (omega arith)))
     ]
 
-pub spot_nowhere : (links : List ℕ) (h i : ℕ) → numbered (length links) i ≡ false → Nowhere ≡ spot_of links h i
+pub before_within : (links : List ℕ) (m at i k : ℕ) → before links m at i ≡ Some k → numbered (length links) k ≡ true
+before_within links zero at i k e = absurd (both_ways false refl (ap is_some e))
+before_within links (suc m) at i k e =
+    elim (cases_Bool (numbered (length links) at)) [
+      | inl t ↦ elim (cases_Bool (link_of links at == i)) [
+        | inl u ↦ grind (arith, common_steps)
+        | inr u ↦ before_within links m (link_of links at) i k (rw (t, u) at e)
+      ]
+      | inr f ↦ absurd (both_ways false refl (ap is_some (sym (cond-false _ _ _ f) ∙ e)))
+    ]
+
+pub spot_nowhere : (links : List ℕ) (h i : ℕ) → numbered (length links) i ≡ false → None ≡ spot_of links h i
 spot_nowhere links h i f = sym (cond-false _ _ _ f)
 
-pub spot_first : (links : List ℕ) (h i n : ℕ) → numbered (length links) i ≡ true → h ≡ i → n ≡ link_of links i → First n ≡ spot_of links h i
-spot_first links h i n t e p = ap First p ∙ sym (cond-true _ _ _ t ∙ cond-true _ _ _ (eq-eqb h i e))
+-- the first record, with its link
+abbrev pub first_spot : ℕ → Option Spot
+first_spot n = Some (record { before = None; next = n })
+
+pub spot_first : (links : List ℕ) (h i n : ℕ) → numbered (length links) i ≡ true → h ≡ i → n ≡ link_of links i → first_spot n ≡ spot_of links h i
+spot_first links h i n t e p = ap first_spot p ∙ sym (cond-true _ _ _ t ∙ cond-true _ _ _ (eq-eqb h i e))
 
 pub spot_behind_lem : (links : List ℕ) (h i n m : ℕ) (o : Option ℕ) → numbered (length links) i ≡ true → (h ≡ i → ⊥) → n ≡ link_of links i → m ≡ length links → o ≡ before links m h i → spot_behind o n ≡ spot_of links h i
 spot_behind_lem links h i n m o t ne p e q =
@@ -248,23 +265,29 @@ spot_behind_lem links h i n m o t ne p e q =
     r ∙ sym (cond-true _ _ _ t ∙ cond-false _ _ _ (ne_eqb h i ne))
 
 -- the links after
-abbrev out_links : List ℕ → Spot → List ℕ
-out_links links (First n) = links
-out_links links (Behind at n) = set links (place at) n
-out_links links Nowhere = links
+abbrev behind_links : List ℕ → Option ℕ → ℕ → List ℕ
+behind_links links None n = links
+behind_links links (Some at) n = set links (place at) n
 
-links_out : {R : Type 0} (link : R → ℕ) (relinked : R → ℕ → R) → ((x : R) (n : ℕ) → link (relinked x n) ≡ n) → (xs : List R) (s : Spot) → map link (out_table relinked xs s) ≡ out_links (map link xs) s
-links_out link relinked law xs (First n) = refl
-links_out link relinked law xs (Behind at n) = links_relink link relinked law xs at n
-links_out link relinked law xs Nowhere = refl
+abbrev out_links : List ℕ → Option Spot → List ℕ
+out_links links None = links
+out_links links (Some spot) = behind_links links spot.before spot.next
 
-abbrev Out : List ℕ → ℕ → ℕ → List ℕ → Spot → Type 0
+links_behind : {R : Type 0} (link : R → ℕ) (relinked : R → ℕ → R) → ((x : R) (n : ℕ) → link (relinked x n) ≡ n) → (xs : List R) (o : Option ℕ) (n : ℕ) → map link (behind_table relinked xs o n) ≡ behind_links (map link xs) o n
+links_behind link relinked law xs None n = refl
+links_behind link relinked law xs (Some at) n = links_relink link relinked law xs at n
+
+links_out : {R : Type 0} (link : R → ℕ) (relinked : R → ℕ → R) → ((x : R) (n : ℕ) → link (relinked x n) ≡ n) → (xs : List R) (s : Option Spot) → map link (out_table relinked xs s) ≡ out_links (map link xs) s
+links_out link relinked law xs None = refl
+links_out link relinked law xs (Some spot) = links_behind link relinked law xs spot.before spot.next
+
+abbrev Out : List ℕ → ℕ → ℕ → List ℕ → Option Spot → Type 0
 Out links h i is s = (is_there s ≡ among i is) × Chain (out_links links s) (out_head h s) (without i is)
 
-out_nowhere : (links : List ℕ) (h i : ℕ) (is : List ℕ) → Absent i is → Chain links h is → Out links h i is Nowhere
+out_nowhere : (links : List ℕ) (h i : ℕ) (is : List ℕ) → Absent i is → Chain links h is → Out links h i is None
 out_nowhere links h i is a c = let r = among_absent i is a in (r.0, rw (← r.1) c)
 
-out_first : (links : List ℕ) (h i j : ℕ) (js : List ℕ) → h ≡ i → Chain links h (j ∷ js) → Out links h i (j ∷ js) (First (link_of links i))
+out_first : (links : List ℕ) (h i j : ℕ) (js : List ℕ) → h ≡ i → Chain links h (j ∷ js) → Out links h i (j ∷ js) (first_spot (link_of links i))
 out_first links h i j js e c =
     let p : i ≡ j = sym e ∙ c.0 in
     let t : eqb i j ≡ true = eq-eqb i j p in
@@ -279,7 +302,7 @@ out_numbered : (links : List ℕ) (h i : ℕ) (is : List ℕ) → numbered (leng
 out_numbered links h i [] t c =
     let z : 0 < i = (numbered_parts _ i t).0 in
     let f : numbered (length links) h ≡ false = rw c refl in
-    let e : Nowhere ≡ spot_of links h i =
+    let e : None ≡ spot_of links h i =
     spot_behind_lem links h i _ _ None t (λ p. omega (arith, p, c, z)) refl refl (sym (before_none links (length links) h i f))
     in
     subst (Out links h i []) e (out_nowhere links h i [] tt c)
@@ -303,8 +326,40 @@ out_chain links h i is c =
       | inr f ↦ subst (Out links h i is) (spot_nowhere links h i f) (out_nowhere links h i is (chain_absent links h i is f c) c)
     ]
 
-pub takes_out : {R : Type 0} (link : R → ℕ) (relinked : R → ℕ → R) → ((x : R) (n : ℕ) → link (relinked x n) ≡ n) → (xs : List R) (h i : ℕ) (s : Spot) → s ≡ spot_of (map link xs) h i → TakesOut (map link xs) h i (map link (out_table relinked xs s)) (out_head h s) (is_there s)
+pub takes_out : {R : Type 0} (link : R → ℕ) (relinked : R → ℕ → R) → ((x : R) (n : ℕ) → link (relinked x n) ≡ n) → (xs : List R) (h i : ℕ) (s : Option Spot) → s ≡ spot_of (map link xs) h i → TakesOut (map link xs) h i (map link (out_table relinked xs s)) (out_head h s) (is_there s)
 takes_out link relinked law xs h i s e is c =
     let d : Out (map link xs) h i is s = subst (Out (map link xs) h i is) (sym e) (out_chain (map link xs) h i is c) in
     let P : List ℕ → Type 0 = λ ls. Chain ls (out_head h s) (without i is) in
     (d.0, subst P (sym (links_out link relinked law xs s)) d.1)
+
+-- Visiting
+
+read_there : {R : Type 0} (link : R → ℕ) (xs : List R) (k : ℕ) → k < length xs → (x : R) × (slice_get xs k ≡ Some x) × (link x ≡ get_or (map link xs) k 0)
+read_there link [] k l = absurd (omega arith)
+read_there link (x ∷ xs) zero l = (x, refl, refl)
+read_there link (x ∷ xs) (suc k) l = read_there link xs k (omega arith)
+
+numbers : {A B : Type 0} (f : A → B) (o : Option (ℕ × A)) → option_map (λ (v : ℕ × A). v.0) o ≡ option_map (λ (v : ℕ × B). v.0) (option_map (λ (v : ℕ × A). (v.0, f v.1)) o)
+numbers f None = refl
+numbers f (Some v) = refl
+
+pick : {R : Type 0} (b : Bool) (at : ℕ) (x : R) (o : Option (ℕ × R)) (p : Option ℕ) → option_map (λ v. v.0) o ≡ p → option_map (λ v. v.0) (cond b (Some (at, x)) o) ≡ cond b (Some at) p
+pick true at x o p h = refl
+pick false at x o p h = h
+
+-- the record before i is the first that the chain visits with the link i
+before_visited : {R : Type 0} (link : R → ℕ) (xs : List R) (n at i : ℕ) → option_map (λ v. v.0) (find (λ v. link v.1 == i) (visits link xs n at)) ≡ before (map link xs) n at i
+before_visited link xs zero at i = refl
+before_visited link xs (suc n) at i =
+    elim (cases_Bool (numbered (length xs) at)) [
+      | inl t ↦
+          let r = read_there link xs (place at) (place_within _ at t) in
+          let f : numbered (length (map link xs)) at ≡ true = rw length-map t in
+          rw (t, r.1, f, ← r.2) (pick (link r.0 == i) at r.0 _ _ (before_visited link xs n (link r.0) i))
+      | inr t ↦ let f : numbered (length (map link xs)) at ≡ false = rw length-map t in rw (t, f) refl
+    ]
+
+-- what a search of the visits for the link i finds
+pub before_found : {A R : Type 0} (read : A → R) (link : R → ℕ) (xs : List R) (at i : ℕ) (o : Option (ℕ × A)) (r : Option ℕ) → r ≡ option_map (λ v. v.0) o
+    → option_map (λ v. (v.0, read v.1)) o ≡ find (λ v. link v.1 == i) (visits link xs (length xs) at) → r ≡ before (map link xs) (length xs) at i
+before_found read link xs at i o r e h = e ∙ numbers read o ∙ ap (option_map (λ v. v.0)) h ∙ before_visited link xs (length xs) at i

@@ -1,6 +1,6 @@
-use Rattle.std.specs.Prelude.{◌≡◌, ℕ, zero, suc, ◌-◌, Bool, true, false, cond, ◌&&◌, List, [], ◌∷◌, length, Some, None, Option, ◌==◌, ◌≢◌, nat_le, slice_index}
+use Rattle.std.specs.Prelude.{◌≡◌, ℕ, zero, suc, ◌-◌, Bool, true, false, cond, ◌&&◌, List, [], ◌∷◌, length, Some, None, Option, is_some, ◌==◌, ◌≢◌, nat_le, slice_get, slice_index}
+use Rattle.std.specs.Option.{option_map_or}
 use Rattle.chain.specs.declared.Spot.{Spot}
-use Rattle.chain.specs.declared.Spot.TheVariants.{First, Behind, Nowhere}
 
 -- Records
 
@@ -88,6 +88,17 @@ TakesFirst links head head' answer =
 abbrev pub Taken : ℕ → List ℕ → ℕ → ℕ → Option ℕ → Type 0
 Taken n links head head' answer = (answer ≡ first_in n head) × (head' ≡ rest_of links head) × TakesFirst links head head' answer
 
+-- Visiting the records of a chain
+
+-- record i of the table
+abbrev pub record_of : {R : Type 0} → List R → ℕ → Option R
+record_of records i = cond (numbered (length records) i) (slice_get records (place i)) None
+
+-- the records that the links visit from number i on, each with its number, at most n
+abbrev pub visits : {R : Type 0} → (R → ℕ) → List R → ℕ → ℕ → List (ℕ × R)
+visits link records zero i = []
+visits link records (suc n) i = option_map_or (λ x. (i, x) ∷ visits link records n (link x)) (record_of records i) []
+
 -- Taking a record out
 
 -- the record before i on the way from `at`, within n steps
@@ -96,41 +107,49 @@ before links zero at i = None
 before links (suc n) at i =
     cond (numbered (length links) at) (cond (link_of links at == i) (Some at) (before links n (link_of links at) i)) None
 
-abbrev pub spot_behind : Option ℕ → ℕ → Spot
-spot_behind None next = Nowhere
-spot_behind (Some at) next = Behind at next
+-- a record behind another, with its own link
+abbrev pub spot_behind : Option ℕ → ℕ → Option Spot
+spot_behind None next = None
+spot_behind (Some at) next = Some (record { before = Some at; next = next })
 
--- where record i stands on the way from head: first, or behind another record, with its own link, or nowhere;
--- it is looked for in at most as many steps as the table has records
-abbrev pub spot_of : List ℕ → ℕ → ℕ → Spot
+-- where record i stands on the way from head: behind which record, or first, with its own link; or nowhere.
+-- It is looked for in at most as many steps as the table has records
+abbrev pub spot_of : List ℕ → ℕ → ℕ → Option Spot
 spot_of links head i =
     cond (numbered (length links) i)
-    (cond (head == i) (First (link_of links i)) (spot_behind (before links (length links) head i) (link_of links i)))
-    Nowhere
+    (cond (head == i) (Some (record { before = None; next = link_of links i })) (spot_behind (before links (length links) head i) (link_of links i)))
+    None
+
+abbrev pub Before : ℕ → Option ℕ → Type 0
+Before n None = Unit {0}
+Before n (Some at) = numbered n at ≡ true
 
 -- a record that stands before another is one of the table of n
-abbrev pub Inside : ℕ → Spot → Type 0
-Inside n (First next) = Unit {0}
-Inside n (Behind at next) = numbered n at ≡ true
-Inside n Nowhere = Unit {0}
+abbrev pub Inside : ℕ → Option Spot → Type 0
+Inside n None = Unit {0}
+Inside n (Some spot) = Before n spot.before
+
+abbrev pub behind_table : {R : Type 0} → (R → ℕ → R) → List R → Option ℕ → ℕ → List R
+behind_table relinked records None next = records
+behind_table relinked records (Some at) next = relink relinked records at next
 
 -- the table after: the record before it gets its link
-abbrev pub out_table : {R : Type 0} → (R → ℕ → R) → List R → Spot → List R
-out_table relinked records (First next) = records
-out_table relinked records (Behind at next) = relink relinked records at next
-out_table relinked records Nowhere = records
+abbrev pub out_table : {R : Type 0} → (R → ℕ → R) → List R → Option Spot → List R
+out_table relinked records None = records
+out_table relinked records (Some spot) = behind_table relinked records spot.before spot.next
+
+abbrev pub behind_head : ℕ → Option ℕ → ℕ → ℕ
+behind_head head None next = next
+behind_head head (Some at) next = head
 
 -- the head after: it moves on where the record was first
-abbrev pub out_head : ℕ → Spot → ℕ
-out_head head (First next) = next
-out_head head (Behind at next) = head
-out_head head Nowhere = head
+abbrev pub out_head : ℕ → Option Spot → ℕ
+out_head head None = head
+out_head head (Some spot) = behind_head head spot.before spot.next
 
 -- the answer
-abbrev pub is_there : Spot → Bool
-is_there (First next) = true
-is_there (Behind at next) = true
-is_there Nowhere = false
+abbrev pub is_there : Option Spot → Bool
+is_there = is_some
 
 -- the answer says whether the chain visited the record, and the chain visits the others as before
 abbrev pub TakesOut : List ℕ → ℕ → ℕ → List ℕ → ℕ → Bool → Type 0

@@ -1,10 +1,12 @@
 //! Chains of records in a lent table: each record has the number of the next.
 //!
-//! Records are numbered from 1, in the order of the table, and a link of 0 ends a chain.
+//! Records are numbered from 1, in the order of the table, and a link of 0 ends a chain. Many chains share one
+//! table, and whoever owns a chain keeps its head, so table and head are handed in apart, and not as one struct.
 #![tactic(auto)]
 
 ghost use Rattle.std.specs.Prelude.{◌≡◌, ℕ, ◌<◌, true, false, map, length, IfSome, Some, None, MatchOption};
-ghost use Rattle.chain.specs.Chain.{place, numbered, link_of, put_table, put_head, PutsFirst, first_in, rest_of, TakesFirst, Taken, before, spot_of, Inside, out_table, out_head, is_there, TakesOut};
+ghost use Rattle.std.specs.Iterator.{YieldsFirstBy, item_count};
+ghost use Rattle.chain.specs.Chain.{place, numbered, link_of, put_table, put_head, PutsFirst, first_in, rest_of, TakesFirst, Taken, visits, before, spot_of, Inside, out_table, out_head, is_there, TakesOut};
 ghost use Rattle.std.proofs.Common.{rules};
 
 /// A record with a link: the number of the next record, or 0.
@@ -88,45 +90,71 @@ pub fn take_first<R: Linked>(records: &[R], head: &mut u16) -> Option<u16>
     Some(first)
 }
 
-// The record before `i` on the way from `head`, looked for in at most as many steps as there are records.
-fn find_before<R: Linked>(records: &[R], head: u16, i: u16) -> Option<u16>
-    ensures answer { result ≡ before (map R.Linked.link records.now) (length records.now) head i }
-    ensures within { IfSome result (λ at. numbered (length records.now) at ≡ true) }
-{
-    let mut at = head;
-    for _ in 0..records.len() {
-        let after = next_of(records, at)?;
-        if after == i {
-            return Some(at);
-        }
-        at = after;
-    }
-    None
+/// The records that the links visit from one on, each with its number, at most as many as the table has.
+#[derive(Drop)]
+pub struct Visits<'a, R> {
+    records: &'a [R],
+    at: u16,
+    left: usize,
 }
 
-// Where a record stands in a chain: first, or behind the record `at`. `next` is its own link.
-enum Spot {
-    First { next: u16 },
-    Behind { at: u16, next: u16 },
-    Nowhere,
+impl<'a, R: Linked> Iterator for Visits<'a, R> {
+    type Item = (u16, &'a R);
+
+    ghost next_gives = { YieldsFirstBy (λ v. (v.0, v.1.now)) (λ s. visits R.Linked.link s.records.now s.left s.at) };
+
+    ghost remaining = { item_count (λ s. visits R.Linked.link s.records.now s.left s.at) };
+
+    fn next(&mut self) -> Option<(u16, &'a R)> {
+        self.left = self.left.checked_sub(1)?;
+        let at = self.at;
+        let record = &self.records[index_of(self.records.len(), at)?];
+        self.at = record.next();
+        Some((at, record))
+    }
+}
+
+/// The records that the chain from `head` on visits, in its order.
+pub fn visited<R: Linked>(records: &[R], head: u16) -> Visits<'_, R>
+    ensures { visits R.Linked.link result.records.now result.left result.at ≡ visits R.Linked.link records.now (length records.now) head }
+{
+    Visits {
+        records,
+        at: head,
+        left: records.len(),
+    }
+}
+
+// The record before `i` on the way from `head`.
+fn find_before<R: Linked>(records: &[R], head: u16, i: u16) -> Option<u16>
+    ensures { result ≡ before (map R.Linked.link records.now) (length records.now) head i }
+{
+    visited(records, head)
+        .find(|(_, record)| record.next() == i)
+        .map(|(at, _)| at)
+}
+
+// Where a record stands in a chain: the record before it, unless it is first, and its own link.
+struct Spot {
+    before: Option<u16>,
+    next: u16,
 }
 
 // Where record `i` stands in the chain from `head` on.
-fn find<R: Linked>(records: &[R], head: u16, i: u16) -> Spot
+fn find<R: Linked>(records: &[R], head: u16, i: u16) -> Option<Spot>
     ensures answer { result ≡ spot_of (map R.Linked.link records.now) head i }
     ensures within { Inside (length records.now) result }
     ensures chain { TakesOut (map R.Linked.link records.now) head i (map R.Linked.link (out_table R.Linked.relinked records.now result)) (out_head head result) (is_there result) }
 {
-    let Some(next) = next_of(records, i) else {
-        return Spot::Nowhere;
-    };
+    let next = next_of(records, i)?;
     if head == i {
-        return Spot::First { next };
+        return Some(Spot { before: None, next });
     }
-    match find_before(records, head, i) {
-        Some(at) => Spot::Behind { at, next },
-        None => Spot::Nowhere,
-    }
+    let at = find_before(records, head, i)?;
+    Some(Spot {
+        before: Some(at),
+        next,
+    })
 }
 
 /// Takes record `i` out of the chain, wherever it stands there, and says whether it was there. Record `i` keeps its own link.
@@ -137,12 +165,17 @@ pub fn take_out<R: Linked>(records: &mut [R], head: &mut u16, i: u16) -> bool
     ensures chain { TakesOut (map R.Linked.link records.old) head.old i (map R.Linked.link records.new) head.new result }
 {
     match find(records, *head, i) {
-        Spot::First { next } => {
+        None => false,
+        Some(Spot { before: None, next }) => {
             *head = next;
             true
         }
-        Spot::Behind { at, next } => set_link(records, at, next),
-        Spot::Nowhere => false,
+        Some(
+            Spot {
+                before: Some(at),
+                next,
+            },
+        ) => set_link(records, at, next),
     }
 }
 
@@ -202,6 +235,19 @@ mod tests {
         assert_eq!(rt; rest_without(1), (true, [Some(3), Some(2), None, None]));
         assert_eq!(rt; rest_without(0), (false, [Some(3), Some(2), Some(1), None]));
         assert_eq!(rt; rest_without(4), (false, [Some(3), Some(2), Some(1), None]));
+    }
+
+    #[test]
+    fn a_chain_is_visited(rt: HostRuntime) {
+        let mut slots = [SLOT; 3];
+        let mut head = 0;
+        put_first(&mut slots, &mut head, 1);
+        put_first(&mut slots, &mut head, 3);
+        let mut numbers = visited(&slots, head).map(|(number, _)| number);
+        assert_eq!(rt;
+            [numbers.next(), numbers.next(), numbers.next()],
+            [Some(3), Some(1), None]
+        );
     }
 
     #[test]
