@@ -6,7 +6,7 @@ use Rattle.chain.specs.Chain.{place, numbered, link_of, changed, relink, Chain, 
 use Rattle.chain.specs.Chain.{put_table, PutsFirst, first_in, rest_of, TakesFirst, Taken}
 use Rattle.std.specs.Option.{option_map}
 use Rattle.std.specs.List.{find, slice_get}
-use Rattle.chain.specs.Chain.{visits, before, spot_behind, spot_of, behind_table, out_table, out_head, is_there, TakesOut}
+use Rattle.chain.specs.Chain.{visits, VisitsChain, before, spot_behind, spot_of, behind_table, out_table, out_head, is_there, TakesOut}
 use Rattle.chain.specs.declared.Spot.{Spot}
 
 -- Numbers
@@ -338,6 +338,19 @@ read_there : {R : Type 0} (link : R → ℕ) (xs : List R) (k : ℕ) → k < len
 read_there link [] k l = absurd (omega arith)
 read_there link (x ∷ xs) zero l = (x, refl, refl)
 read_there link (x ∷ xs) (suc k) l = read_there link xs k (omega arith)
+
+visits_is : {R : Type 0} (link : R → ℕ) (xs : List R) (n at : ℕ) (is : List ℕ) → length is ≤ n → Chain (map link xs) at is → map (λ v. v.0) (visits link xs n at) ≡ is
+visits_is link xs zero at [] l c = refl
+visits_is link xs (suc n) at [] l c = rw c refl
+visits_is link xs zero at (j ∷ js) l c = absurd (omega arith)
+visits_is link xs (suc n) at (j ∷ js) l c =
+    let t : numbered (length xs) j ≡ true = rw length-map at c.1 in
+    let r = read_there link xs (place j) (place_within _ j t) in
+    rw (c.0, t, r.1) (ap (λ (ks : List ℕ). j ∷ ks) (visits_is link xs n (link r.0) js (omega arith) (rw r.2 c.3)))
+
+-- a chain has no more records than the table, so all of it is visited
+pub visits_chain : {R : Type 0} (link : R → ℕ) (xs : List R) (head : ℕ) → VisitsChain link xs head (visits link xs (length xs) head)
+visits_chain link xs head is c = visits_is link xs (length xs) head is (rw length-map at (chain_length (map link xs) head is c)) c
 
 numbers : {A B : Type 0} (f : A → B) (o : Option (ℕ × A)) → option_map (λ (v : ℕ × A). v.0) o ≡ option_map (λ (v : ℕ × B). v.0) (option_map (λ (v : ℕ × A). (v.0, f v.1)) o)
 numbers f None = refl

@@ -1,4 +1,4 @@
-use Rattle.std.specs.Prelude.{◌≡◌, ℕ, zero, suc, ◌-◌, Bool, true, false, cond, ◌&&◌, List, [], ◌∷◌, length, Some, None, Option, is_some, ◌==◌, ◌≢◌, nat_le, slice_get, slice_index}
+use Rattle.std.specs.Prelude.{◌≡◌, ℕ, zero, suc, ◌-◌, Bool, true, false, cond, ◌&&◌, List, [], ◌∷◌, map, length, Some, None, Option, is_some, ◌==◌, ◌≢◌, nat_le, slice_get, slice_index}
 use Rattle.std.specs.Option.{option_map_or}
 use Rattle.chain.specs.declared.Spot.{Spot}
 
@@ -98,6 +98,11 @@ record_of records i = cond (numbered (length records) i) (slice_get records (pla
 abbrev pub visits : {R : Type 0} → (R → ℕ) → List R → ℕ → ℕ → List (ℕ × R)
 visits link records zero i = []
 visits link records (suc n) i = option_map_or (λ x. (i, x) ∷ visits link records n (link x)) (record_of records i) []
+
+-- the records that are visited are just those of the chain, in its order
+abbrev pub VisitsChain : {R : Type 0} → (R → ℕ) → List R → ℕ → List (ℕ × R) → Type 0
+VisitsChain link records head visits =
+    (is : List ℕ) → Chain (map link records) head is → map (λ v. v.0) visits ≡ is
 
 -- Taking a record out
 

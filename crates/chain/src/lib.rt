@@ -6,7 +6,7 @@
 
 ghost use Rattle.std.specs.Prelude.{◌≡◌, ℕ, ◌<◌, true, false, map, length, IfSome, Some, None, MatchOption};
 ghost use Rattle.std.specs.Iterator.{YieldsFirstBy, item_count};
-ghost use Rattle.chain.specs.Chain.{place, numbered, link_of, put_table, put_head, PutsFirst, first_in, rest_of, TakesFirst, Taken, visits, before, spot_of, Inside, out_table, out_head, is_there, TakesOut};
+ghost use Rattle.chain.specs.Chain.{place, numbered, link_of, put_table, put_head, PutsFirst, first_in, rest_of, TakesFirst, Taken, visits, VisitsChain, before, spot_of, Inside, out_table, out_head, is_there, TakesOut};
 ghost use Rattle.std.proofs.Common.{rules};
 
 /// A record with a link: the number of the next record, or 0.
@@ -116,7 +116,8 @@ impl<'a, R: Linked> Iterator for Visits<'a, R> {
 
 /// The records that the chain from `head` on visits, in its order.
 pub fn visited<R: Linked>(records: &[R], head: u16) -> Visits<'_, R>
-    ensures { visits R.Linked.link result.records.now result.left result.at ≡ visits R.Linked.link records.now (length records.now) head }
+    ensures all { visits R.Linked.link result.records.now result.left result.at ≡ visits R.Linked.link records.now (length records.now) head }
+    ensures chain { VisitsChain R.Linked.link records.now head (visits R.Linked.link records.now (length records.now) head) }
 {
     Visits {
         records,
