@@ -1,18 +1,18 @@
 -- What each change of a memory does to a block, a collector and a phase, and what it leaves.
-use Rattle.std.proofs.Common.{◌≡◌, ℕ, zero, suc, ◌+◌, ◌<◌, ◌≤◌, Bool, true, false, cond, eqb, ◌⊎◌, List, [], ◌∷◌, map, length, get_or, set, replicate, None, Option, sym, refl, ap, subst, inl, inr, arith}
+use Rattle.std.proofs.Common.{◌≡◌, ℕ, zero, suc, ◌+◌, ◌<◌, ◌≤◌, Bool, true, cond, eqb, ◌⊎◌, List, [], ◌∷◌, map, length, get_or, set, replicate, None, Option, sym, refl, ap, subst, inl, inr, arith}
 use Rattle.std.proofs.lemmas.List.{get_or-set_same, get_or-set_other}
 use Rattle.chain.specs.Chain.{place, numbered}
 use Rattle.chain.proofs.Chains.{place_within, place_apart}
 use Rattle.state.specs.declared.block.Block.{Block}
 use Rattle.state.specs.declared.slot.Slot.{Slot}
+use Rattle.state.specs.declared.collector.AtLevel.{AtLevel}
 use Rattle.state.specs.declared.collector.Collector.{Collector}
 use Rattle.state.specs.declared.collector.Status.{Status}
-use Rattle.state.specs.declared.collector.Status.TheVariants.{Unstarted}
 use Rattle.state.specs.declared.collector.Phase.{Phase}
 use Rattle.state.specs.Tables.{map_from}
 use Rattle.state.specs.Blocks.{level_place}
 use Rattle.state.specs.Layout.{Layout, within}
-use Rattle.state.specs.Memory.{Memory, free_slot, new_collector, block_in, block_at, collector_at, phase_at, status_at, sends_at, with_collector, with_phase, changed_block, each_block, on_block, on_area}
+use Rattle.state.specs.Memory.{Memory, free_slot, unstarted_level, new_collector, block_in, block_at, collector_at, phase_at, status_at, sends_at, with_collector, with_phase, changed_block, each_block, on_block, on_area}
 use Rattle.state.specs.Turns.{on_status, with_sends, reset_at}
 use Rattle.state.specs.declared.collector.Phase.TheVariants.{Marking}
 
@@ -22,7 +22,6 @@ pub length_map_from : {X Y : Type 0} (f : ℕ → X → Y) (i : ℕ) (xs : List 
 length_map_from f i [] = refl
 length_map_from f i (x ∷ xs) = ap suc (length_map_from f (i + 1) xs)
 
--- an element of a mapped table
 -- a table of one value, which is also the value past its end
 pub get_or_filled : {X : Type 0} (n i : ℕ) (d : X) → get_or (replicate n d) i d ≡ d
 get_or_filled zero i d = refl
@@ -37,12 +36,19 @@ set_either (x ∷ xs) zero (suc i) v d = inr refl
 set_either (x ∷ xs) (suc p) zero v d = inr refl
 set_either (x ∷ xs) (suc p) (suc i) v d = set_either xs p i v d
 
+-- an element of a mapped table
 pub get_or_map_from : {X Y : Type 0} (f : ℕ → X → Y) (i : ℕ) (xs : List X) (n : ℕ) (d : X) (e : Y) → n < length xs → get_or (map_from f i xs) n e ≡ f (i + n) (get_or xs n d)
 get_or_map_from f i [] n d e h = absurd (omega (arith, h))
 get_or_map_from f i (x ∷ xs) zero d e h = let z : i + 0 ≡ i = omega arith in rw z
 get_or_map_from f i (x ∷ xs) (suc n) d e h =
     let z : (i + 1) + n ≡ i + suc n = omega arith in
     subst (λ k. get_or (map_from f (i + 1) xs) n e ≡ f k (get_or xs n d)) z (get_or_map_from f (i + 1) xs n d e (omega (arith, h)))
+
+-- a part of each element that the map keeps
+pub part_map_from : {X Y : Type 0} (part : X → Y) (f : ℕ → X → X) → ((n : ℕ) (x : X) → part (f n x) ≡ part x) → (i : ℕ) (xs : List X) (n : ℕ) (d : X) → part (get_or (map_from f i xs) n d) ≡ part (get_or xs n d)
+part_map_from part f h i [] n d = refl
+part_map_from part f h i (x ∷ xs) zero d = h i x
+part_map_from part f h i (x ∷ xs) (suc n) d = part_map_from part f h (i + 1) xs n d
 
 -- Blocks
 
@@ -108,28 +114,33 @@ collector_any P s a c pc ps e =
       | inr old ↦ subst P (sym old) (ps e)
     ]
 
--- the status and the sending of a level, from 2 to 4
-pub status_on : (f : ℕ → Status → Status) (c : Collector) (l : ℕ) → length c.status ≡ 3 → 2 ≤ l → l ≤ 4 → status_at (on_status f c) l ≡ f l (status_at c l)
-status_on f c l three lo hi =
+-- a change of each level's record, read at a level from 2 to 4
+level_changed : (f : ℕ → AtLevel → AtLevel) (xs : List AtLevel) (l : ℕ) → length xs ≡ 3 → 2 ≤ l → l ≤ 4 → get_or (map_from f 2 xs) (level_place l) unstarted_level ≡ f l (get_or xs (level_place l) unstarted_level)
+level_changed f xs l three lo hi =
     let e : 2 + level_place l ≡ l = omega (arith, lo) in
-    subst (λ k. status_at (on_status f c) l ≡ f k (status_at c l)) e (get_or_map_from f 2 c.status (level_place l) Unstarted Unstarted (omega (arith, three, hi, lo)))
+    subst (λ k. get_or (map_from f 2 xs) (level_place l) unstarted_level ≡ f k (get_or xs (level_place l) unstarted_level)) e
+    (get_or_map_from f 2 xs (level_place l) unstarted_level unstarted_level (omega (arith, three, hi, lo)))
 
-pub sends_with : (f : ℕ → Bool) (c : Collector) (l : ℕ) → length c.sends ≡ 3 → 2 ≤ l → l ≤ 4 → sends_at (with_sends f c) l ≡ f l
-sends_with f c l three lo hi =
-    let e : 2 + level_place l ≡ l = omega (arith, lo) in
-    subst (λ k. sends_at (with_sends f c) l ≡ f k) e (get_or_map_from (λ n _. f n) 2 c.sends (level_place l) false false (omega (arith, three, hi, lo)))
+-- the status and the sending of a level
+pub status_on : (f : ℕ → Status → Status) (c : Collector) (l : ℕ) → length c.levels ≡ 3 → 2 ≤ l → l ≤ 4 → status_at (on_status f c) l ≡ f l (status_at c l)
+status_on f c l three lo hi = ap (λ (x : AtLevel). x.status) (level_changed _ c.levels l three lo hi)
 
-pub status_reset : (l : ℕ) (c : Collector) → length c.status ≡ 3 → 2 ≤ l → l ≤ 4 → status_at (reset_at l c) l ≡ Unstarted
-status_reset l c three lo hi = get_or-set_same c.status (level_place l) Unstarted Unstarted (omega (arith, three, hi, lo))
+pub sends_with : (f : ℕ → Bool) (c : Collector) (l : ℕ) → length c.levels ≡ 3 → 2 ≤ l → l ≤ 4 → sends_at (with_sends f c) l ≡ f l
+sends_with f c l three lo hi = ap (λ (x : AtLevel). x.sends) (level_changed _ c.levels l three lo hi)
 
-pub status_reset_other : (l k : ℕ) (c : Collector) → 2 ≤ l → 2 ≤ k → (k ≡ l → ⊥) → status_at (reset_at l c) k ≡ status_at c k
-status_reset_other l k c hl hk ne = get_or-set_other c.status (level_place l) (level_place k) Unstarted Unstarted (λ e. ne (omega (arith, e, hl, hk)))
+-- a change of the one keeps the other
+pub sends_on : (f : ℕ → Status → Status) (c : Collector) (l : ℕ) → sends_at (on_status f c) l ≡ sends_at c l
+sends_on f c l = part_map_from (λ (x : AtLevel). x.sends) _ (λ n x. refl) 2 c.levels (level_place l) unstarted_level
 
-pub sends_reset : (l : ℕ) (c : Collector) → length c.sends ≡ 3 → 2 ≤ l → l ≤ 4 → sends_at (reset_at l c) l ≡ false
-sends_reset l c three lo hi = get_or-set_same c.sends (level_place l) false false (omega (arith, three, hi, lo))
+pub status_with : (f : ℕ → Bool) (c : Collector) (l : ℕ) → status_at (with_sends f c) l ≡ status_at c l
+status_with f c l = part_map_from (λ (x : AtLevel). x.status) _ (λ n x. refl) 2 c.levels (level_place l) unstarted_level
 
-pub sends_reset_other : (l k : ℕ) (c : Collector) → 2 ≤ l → 2 ≤ k → (k ≡ l → ⊥) → sends_at (reset_at l c) k ≡ sends_at c k
-sends_reset_other l k c hl hk ne = get_or-set_other c.sends (level_place l) (level_place k) false false (λ e. ne (omega (arith, e, hl, hk)))
+-- what a reset leaves at its level and at others
+pub reset_same : (l : ℕ) (c : Collector) → length c.levels ≡ 3 → 2 ≤ l → l ≤ 4 → get_or (reset_at l c).levels (level_place l) unstarted_level ≡ unstarted_level
+reset_same l c three lo hi = get_or-set_same c.levels (level_place l) unstarted_level unstarted_level (omega (arith, three, hi, lo))
+
+pub reset_other : (l k : ℕ) (c : Collector) → 2 ≤ l → 2 ≤ k → (k ≡ l → ⊥) → get_or (reset_at l c).levels (level_place k) unstarted_level ≡ get_or c.levels (level_place k) unstarted_level
+reset_other l k c hl hk ne = get_or-set_other c.levels (level_place l) (level_place k) unstarted_level unstarted_level (λ e. ne (omega (arith, e, hl, hk)))
 
 -- Phases
 

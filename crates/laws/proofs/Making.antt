@@ -12,6 +12,7 @@ use Rattle.post.specs.Marks.{Waits}
 use Rattle.state.specs.declared.word.Word.TheVariants.{Number}
 use Rattle.state.specs.declared.block.Block.{Block}
 use Rattle.state.specs.declared.slot.Slot.{Slot}
+use Rattle.state.specs.declared.collector.AtLevel.{AtLevel}
 use Rattle.state.specs.declared.collector.Collector.{Collector}
 use Rattle.state.specs.declared.collector.Stage.TheVariants.{Resting}
 use Rattle.state.specs.declared.collector.Status.TheVariants.{Unstarted, Begun, Ended}
@@ -21,7 +22,7 @@ use Rattle.state.specs.declared.refusal.Refusal.TheVariants.{PostUnfit}
 use Rattle.state.specs.Tables.{map_from, some_from}
 use Rattle.state.specs.Layout.{Layout, slot_count, lowest, within, first_in, last_of, home, above}
 use Rattle.state.specs.Lawful.{Lawful}
-use Rattle.state.specs.Memory.{World, free_slot, new_collector, block_at, collector_at, phase_at, is_marking}
+use Rattle.state.specs.Memory.{World, free_slot, unstarted_level, new_collector, block_at, collector_at, phase_at, status_at, is_marking}
 use Rattle.state.specs.Calls.{fresh, any_waits, made}
 use Rattle.state.specs.Pasts.{Points, MarksOf}
 use Rattle.laws.specs.Roots.{Root, from_register, on_hold, Reach, root, step}
@@ -126,7 +127,7 @@ module _ (plan : Layout) where
   rests = each_collector (λ c. c.stage ≡ Resting) (λ b. refl)
 
   unstarted : (a l : ℕ) → status (fresh plan) a l ≡ Unstarted
-  unstarted a l = each_collector (λ c. get_or c.status (l - 2) Unstarted ≡ Unstarted) (λ b. get_or_filled 3 (l - 2) Unstarted) a
+  unstarted a l = each_collector (λ c. status_at c l ≡ Unstarted) (λ b. ap (λ (x : AtLevel). x.status) (get_or_filled 3 (l - 2) unstarted_level)) a
 
   all_mark : (x : ℕ) → phase_at (fresh plan) x ≡ Marking
   all_mark x = fresh_phase 1 plan.areas (place x)
@@ -151,8 +152,8 @@ module _ (plan : Layout) where
         phases = length_map_from _ 1 plan.areas;
         blocks = λ b k e. absurd (none_there b k e);
         marks = λ b m k x e found. absurd (none_there b k e);
-        statuses = each_collector (λ c. length c.status ≡ 3) (λ b. refl);
-        sending = each_collector (λ c. length c.sends ≡ 3) (λ b. refl);
+        statuses = each_collector (λ c. length c.levels ≡ 3) (λ b. refl);
+        sending = each_collector (λ c. length c.levels ≡ 3) (λ b. refl);
       }
 
 module _ (plan : Layout) (law : Lawful plan) where

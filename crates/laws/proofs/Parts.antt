@@ -8,6 +8,7 @@ use Rattle.state.specs.declared.block.Block.{Block}
 use Rattle.state.specs.declared.block.Colour.{Colour}
 use Rattle.state.specs.declared.block.Colour.TheVariants.{White, Grey, Black}
 use Rattle.state.specs.declared.slot.Slot.{Slot}
+use Rattle.state.specs.declared.collector.AtLevel.{AtLevel}
 use Rattle.state.specs.declared.collector.Collector.{Collector}
 use Rattle.state.specs.declared.collector.Stage.TheVariants.{Resting, Pass, Sweep}
 use Rattle.state.specs.declared.collector.Status.{Status}
@@ -24,7 +25,7 @@ use Rattle.laws.specs.Roots.{Root, from_register, on_hold}
 use Rattle.laws.specs.Views.{Shape, is_black, white, black, entry, white_in, black_in, entry_in, mark_in, stage, status, sends, mark}
 use Rattle.chain.proofs.Chains.{place_within, numbered_from}
 use Rattle.laws.proofs.Plans.{low_numbered, low_first, numbered_first, within_first, within_numbered}
-use Rattle.laws.proofs.Frames.{block_each, block_each_any, block_area, block_on, slot_set, slot_set_other, status_on, sends_with, status_reset, status_reset_other, sends_reset, sends_reset_other, phase_at_lem, phase_other, get_or_map_from, collector_at_lem, collector_other}
+use Rattle.laws.proofs.Frames.{block_each, block_each_any, block_area, block_on, slot_set, slot_set_other, length_map_from, status_on, sends_with, sends_on, status_with, reset_same, reset_other, phase_at_lem, phase_other, get_or_map_from, collector_at_lem, collector_other}
 use Rattle.laws.proofs.Graphs.{KeepsWords, SameGraph, graph_each, graph_trans, graph_sym, keeps_cond, used_back, root_back}
 use Rattle.laws.proofs.Changed.{level_place_lem, place_level, entry_inside, some_number, some_from_lem, every_number, every_fails, shaded_where, shaded_black_in, shaded_back, shaded_why, shaded_here, shaded_entry, shaded_mark, entered_why, entered_by_entry, entered_by_mark, pointing, points_word, word_points, on_here, on_other, black_here, not_white_here, coloured_entry, coloured_mark, same_white, same_black, Tabled, marks_entry, marks_mark, marks_colour, recovered_entry_lem, recovered_mark, recovered_colour, recovered_length, shaded_length, none-some, some_same, clear_from, clear_parts}
 use Rattle.laws.proofs.Stages.{is_ended_lem}
@@ -254,7 +255,7 @@ module _ (plan : Layout) (law : Lawful plan) (a : ℕ) (low : lowest plan a ≡ 
         };
         only = only_seated s v c refl refl;
         stage_is = ap (λ (x : Collector). x.stage) here;
-        sends_is = λ l. ap (λ (x : Collector). sends_at x l) here;
+        sends_is = λ l. ap (λ (x : Collector). sends_at x l) here ∙ sends_on f (collector_at s a) l;
         status_is = λ l lo hi. ap (λ (x : Collector). status_at x l) here ∙ status_on f (collector_at s a) l (shape.statuses a) lo hi;
         entry_is = λ b m h. ap (λ o. entry_in o m) (at b h) ∙ marks_entry (within plan a b) (taken b) (block_at s b) m;
         mark_is = λ b m l h lm hm ll hl. ap (λ o. mark_in o m l) (at b h) ∙
@@ -357,8 +358,10 @@ module _ (plan : Layout) (law : Lawful plan) (a : ℕ) (low : lowest plan a ≡ 
         graph = graph_trans s s1 t g1 (graph_trans s1 s2 t roots.graph pass.shades.graph);
         only = only_trans s s2 t (only_seated s s2 c refl refl) pass.only;
         stage_is = pass.stage_is;
-        status_is = λ l lo hi. pass.status_is l ∙ ap (λ (x : Collector). status_at x l) here ∙ status_on (λ n x. begun (leb n (top plan)) x) was l (shape.statuses a) lo hi;
-        sends_is = λ l lo hi. pass.sends_is l ∙ ap (λ (x : Collector). sends_at x l) here ∙ sends_with (marking_above plan s a) started l (shape.sending a) lo hi;
+        status_is = λ l lo hi.
+            pass.status_is l ∙ ap (λ (x : Collector). status_at x l) here ∙ status_with (marking_above plan s a) started l ∙ status_on (λ n x. begun (leb n (top plan)) x) was l (shape.statuses a) lo hi;
+        sends_is = λ l lo hi.
+            pass.sends_is l ∙ ap (λ (x : Collector). sends_at x l) here ∙ sends_with (marking_above plan s a) started l (length_map_from _ 2 was.levels ∙ shape.sending a) lo hi;
         entry_is = λ b m h lo hi. entry1 b m h ∙ ap (λ o. entry_in o m) (changed b h) ∙ recovered_entry_lem (within plan a b) at (block_at s b) m (tabled s shape b m) lo hi;
         mark_is = λ b m l h lm hm ll hl.
             still.mark_is b m l h ∙ roots.marks.mark_is b m l h ∙ ap (λ o. mark_in o m l) (changed b h) ∙ recovered_mark (within plan a b) at (block_at s b) m l (tabled s shape b m) lm hm ll hl ∙
@@ -616,8 +619,8 @@ module _ (plan : Layout) (law : Lawful plan) (a : ℕ) (low : lowest plan a ≡ 
         (
           ap (λ (x : Collector). x.stage) here,
           (
-            (λ l lo hi. ap (λ (x : Collector). status_at x l) here ∙ status_on (λ _ x. ended x) was l (shape.statuses a) lo hi),
-            (λ l lo hi. ap (λ (x : Collector). sends_at x l) here ∙ sends_with (λ _. false) over l (shape.sending a) lo hi),
+            (λ l lo hi. ap (λ (x : Collector). status_at x l) here ∙ status_with (λ _. false) over l ∙ status_on (λ _ x. ended x) was l (shape.statuses a) lo hi),
+            (λ l lo hi. ap (λ (x : Collector). sends_at x l) here ∙ sends_with (λ _. false) over l (length_map_from _ 2 was.levels ∙ shape.sending a) lo hi),
           ),
         ),
       )
@@ -662,12 +665,12 @@ module _ (plan : Layout) (law : Lawful plan) where
         phase = phase_at_lem s x p (subst (λ i. numbered i x ≡ true) (sym shape.phases) n);
         phase_others = λ y h ne. phase_other s x y p (numbered_first _ x n) h ne;
         stage_is = λ e low. ap (λ (c : Collector). c.stage) (reset s shape x l p e low) ∙ stage_reset l (collector_at s e) (under plan x l e);
-        status_under = λ e low here. ap (λ (c : Collector). status_at c l) (reset_under e low here) ∙ status_reset l (collector_at s e) (shape.statuses e) ll hl;
-        sends_under = λ e low here. ap (λ (c : Collector). sends_at c l) (reset_under e low here) ∙ sends_reset l (collector_at s e) (shape.sending e) ll hl;
+        status_under = λ e low here. ap (λ (c : Collector). status_at c l) (reset_under e low here) ∙ ap (λ (x : AtLevel). x.status) (reset_same l (collector_at s e) (shape.statuses e) ll hl);
+        sends_under = λ e low here. ap (λ (c : Collector). sends_at c l) (reset_under e low here) ∙ ap (λ (x : AtLevel). x.sends) (reset_same l (collector_at s e) (shape.sending e) ll hl);
         status_others = λ e k low lo hi ne. ap (λ (c : Collector). status_at c k) (reset s shape x l p e low) ∙
-            cond_both (under plan x l e) _ _ (λ (c : Collector). status_at c k ≡ status s e k) (λ t. status_reset_other l k (collector_at s e) ll lo (λ same. ne same (under_above e t))) (λ _. refl);
+            cond_both (under plan x l e) _ _ (λ (c : Collector). status_at c k ≡ status s e k) (λ t. ap (λ (x : AtLevel). x.status) (reset_other l k (collector_at s e) ll lo (λ same. ne same (under_above e t)))) (λ _. refl);
         sends_others = λ e k low lo hi ne. ap (λ (c : Collector). sends_at c k) (reset s shape x l p e low) ∙
-            cond_both (under plan x l e) _ _ (λ (c : Collector). sends_at c k ≡ sends s e k) (λ t. sends_reset_other l k (collector_at s e) ll lo (λ same. ne same (under_above e t))) (λ _. refl);
+            cond_both (under plan x l e) _ _ (λ (c : Collector). sends_at c k ≡ sends s e k) (λ t. ap (λ (x : AtLevel). x.sends) (reset_other l k (collector_at s e) ll lo (λ same. ne same (under_above e t)))) (λ _. refl);
       }
     where
       under_above : (e : ℕ) → under plan x l e ≡ true → above plan e l ≡ x

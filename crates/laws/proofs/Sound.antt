@@ -118,8 +118,8 @@ module _ (plan : Layout) where
 
   -- The lengths of a memory's tables, for one whose slots have blocks with tables of the right lengths.
   pub shape_from : (s t : Memory) → Shape plan s → length t.slots ≡ length s.slots → length t.registers ≡ length s.registers → length t.collectors ≡ length s.collectors → length t.phases ≡ length s.phases →
-      ((b : ℕ) → ShapedIn (block_at t b)) → ((a : ℕ) → length (collector_at t a).status ≡ 3) → ((a : ℕ) → length (collector_at t a).sends ≡ 3) → Shape plan t
-  shape_from s t shape slots registers collectors phases blocks statuses sending =
+      ((b : ℕ) → ShapedIn (block_at t b)) → ((a : ℕ) → length (collector_at t a).levels ≡ 3) → Shape plan t
+  shape_from s t shape slots registers collectors phases blocks levels =
       record {
         slots = slots ∙ shape.slots;
         registers = registers ∙ shape.registers;
@@ -127,8 +127,8 @@ module _ (plan : Layout) where
         phases = phases ∙ shape.phases;
         blocks = λ b k there. (shaped b k there).block;
         marks = λ b m k e there found. (shaped b k there).marks m e found;
-        statuses = statuses;
-        sending = sending;
+        statuses = levels;
+        sending = levels;
       }
     where
       shaped : (b : ℕ) (k : Block) → block_at t b ≡ Some k → Shaped k
@@ -197,7 +197,7 @@ module _ (plan : Layout) where
   pub sound_each : (f : ℕ → Block → Block) → ((n : ℕ) (k : Block) → KeepsTables k (f n k)) → (s : Memory) → Sound plan s → Sound plan (with_slots (each_block f s.slots) s)
   sound_each f keeps s sound =
       record {
-        shape = shape_from s t sound.shape (length_map_from _ 1 s.slots) refl refl refl blocks sound.shape.statuses sound.shape.sending;
+        shape = shape_from s t sound.shape (length_map_from _ 1 s.slots) refl refl refl blocks sound.shape.statuses;
         chained = λ a low. chain_stays s t a (links_each f 1 s.slots) refl (used_each f s.slots) (sound.chained a low);
         rooted_slots = rooted;
         pointed_slots = pointed;
@@ -238,7 +238,7 @@ module _ (plan : Layout) where
   pub sound_register : (p : ℕ) (v : Word) → ((b : ℕ) → v ≡ Pointer b → numbered (slot_count plan) b ≡ true) → (s : Memory) → Sound plan s → Sound plan (with_register p v s)
   sound_register p v slot s sound =
       record {
-        shape = shape_from s t sound.shape refl (length-set s.registers p v) refl refl (shaped_at s sound.shape) sound.shape.statuses sound.shape.sending;
+        shape = shape_from s t sound.shape refl (length-set s.registers p v) refl refl (shaped_at s sound.shape) sound.shape.statuses;
         chained = λ a low. chain_stays s t a refl refl (λ b. refl) (sound.chained a low);
         rooted_slots = rooted;
         pointed_slots = λ q b e. sound.pointed_slots q b (record { block = e.block; there = e.there; word = e.word; inside = e.inside; pointer = e.pointer });
@@ -255,13 +255,12 @@ module _ (plan : Layout) where
 
   -- What a collector of lowest area a may be.
   pub record Fit (a : ℕ) (c : Collector) : Type 0 where
-    pub statuses : length c.status ≡ 3
-    pub sending : length c.sends ≡ 3
+    pub levels : length c.levels ≡ 3
     pub sweeps : (k : ℕ) → c.stage ≡ Sweep k → first_in plan a ≤ k
     pub passes : (L : ℕ) → c.stage ≡ Pass L → (1 ≤ L) × (L ≤ top plan)
 
   pub fit_at : (s : Memory) → Sound plan s → (a : ℕ) → lowest plan a ≡ true → Fit a (collector_at s a)
-  fit_at s sound a low = record { statuses = sound.shape.statuses a; sending = sound.shape.sending a; sweeps = λ k. sound.sweeps_inside a k low; passes = λ L. sound.passes_inside a L low }
+  fit_at s sound a low = record { levels = sound.shape.statuses a; sweeps = λ k. sound.sweeps_inside a k low; passes = λ L. sound.passes_inside a L low }
 
   pub collector_there : (s : Memory) → Shape plan s → (a : ℕ) → lowest plan a ≡ true → (c : Collector) → collector_at (with_collector a c s) a ≡ c
   collector_there s shape a low c = collector_at_lem s a c (subst (λ n. numbered n a ≡ true) (sym shape.collectors) (low_numbered plan a low))
@@ -278,8 +277,7 @@ module _ (plan : Layout) where
   pub shape_put : (s : Memory) → Shape plan s → (a : ℕ) (c : Collector) → Fit a c → Shape plan (with_collector a c s)
   shape_put s shape a c fit =
       shape_from s _ shape refl refl (length-set s.collectors (place a) c) refl (shaped_at s shape)
-      (collector_any (λ x. length x.status ≡ 3) s a c fit.statuses shape.statuses)
-      (collector_any (λ x. length x.sends ≡ 3) s a c fit.sending shape.sending)
+      (collector_any (λ x. length x.levels ≡ 3) s a c fit.levels shape.statuses)
 
   -- Another collector for area a, with the same free chain.
   pub sound_collector : (a : ℕ) → lowest plan a ≡ true → (c : Collector) (s : Memory) → Sound plan s → c.free ≡ (collector_at s a).free → Fit a c → Sound plan (with_collector a c s)

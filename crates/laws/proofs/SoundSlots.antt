@@ -73,7 +73,7 @@ module _ (plan : Layout) (law : Lawful plan) (a : ℕ) (low : lowest plan a ≡ 
   put_free = ap (λ c. c.free) (collector_there plan s sound.shape a low (with_free h (collector_at s a)))
 
   fit : Fit plan a (with_free h (collector_at s a))
-  fit = let was = fit_at plan s sound a low in record { statuses = was.statuses; sending = was.sending; sweeps = was.sweeps; passes = was.passes }
+  fit = let was = fit_at plan s sound a low in record { levels = was.levels; sweeps = was.sweeps; passes = was.passes }
 
   -- the chains of other areas do not pass the slot
   elsewhere : (e : ℕ) → lowest plan e ≡ true → (e ≡ a → ⊥) → FreeChain plan put e
@@ -107,7 +107,7 @@ module _ (plan : Layout) (law : Lawful plan) (a : ℕ) (low : lowest plan a ≡ 
   sound_put shaped bare chain =
       record {
         shape = shape_from plan (with_collector a (with_free h (collector_at s a)) s) put (shape_put plan s sound.shape a _ fit) (length-set s.slots (place b) x) refl refl refl blocks
-            (shape_put plan s sound.shape a _ fit).statuses (shape_put plan s sound.shape a _ fit).sending;
+            (shape_put plan s sound.shape a _ fit).statuses;
         chained = λ e lowe. by_area (FreeChain plan put) a e chain (elsewhere e lowe);
         rooted_slots = λ c r. sound.rooted_slots c (root c r);
         pointed_slots = λ p c e. sound.pointed_slots p c (points p c e);

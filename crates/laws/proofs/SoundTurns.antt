@@ -26,10 +26,10 @@ use Rattle.laws.proofs.SoundSlots.{sound_recovered}
 module _ (plan : Layout) (law : Lawful plan) where
   -- a change of the status and of what the round sends keeps a collector fit
   fit_status : (a : ℕ) (f : ℕ → Status → Status) (c : Collector) → Fit plan a c → Fit plan a (on_status f c)
-  fit_status a f c h = record { statuses = length_map_from f 2 c.status ∙ h.statuses; sending = h.sending; sweeps = h.sweeps; passes = h.passes }
+  fit_status a f c h = record { levels = length_map_from _ 2 c.levels ∙ h.levels; sweeps = h.sweeps; passes = h.passes }
 
   fit_sends : (a : ℕ) (f : ℕ → Bool) (c : Collector) → Fit plan a c → Fit plan a (with_sends f c)
-  fit_sends a f c h = record { statuses = h.statuses; sending = length_map_from (λ l _. f l) 2 c.sends ∙ h.sending; sweeps = h.sweeps; passes = h.passes }
+  fit_sends a f c h = record { levels = length_map_from _ 2 c.levels ∙ h.levels; sweeps = h.sweeps; passes = h.passes }
 
   -- The drain
   pub sound_drained : (a : ℕ) → lowest plan a ≡ true → (w : World) → Sound plan w.memory → Sound plan (drained plan a w).memory
@@ -40,7 +40,7 @@ module _ (plan : Layout) (law : Lawful plan) where
       (fit_status a _ _ (fit_at plan w.memory sound a low))
 
   fit_stage : (a : ℕ) (g : Stage) (c : Collector) → ((k : ℕ) → g ≡ Sweep k → first_in plan a ≤ k) → ((L : ℕ) → g ≡ Pass L → (1 ≤ L) × (L ≤ top plan)) → Fit plan a c → Fit plan a (at_stage g c)
-  fit_stage a g c sweeps passes h = record { statuses = h.statuses; sending = h.sending; sweeps = sweeps; passes = passes }
+  fit_stage a g c sweeps passes h = record { levels = h.levels; sweeps = sweeps; passes = passes }
 
   fit_resting : (a : ℕ) (c : Collector) → Fit plan a c → Fit plan a (at_stage Resting c)
   fit_resting a c h = fit_stage a Resting c (λ k e. absurd (grind (arith, e))) (λ L e. absurd (grind (arith, e))) h
@@ -109,15 +109,14 @@ module _ (plan : Layout) (law : Lawful plan) where
   record Resets (c d : Collector) : Type 0 where
     stage : d.stage ≡ c.stage
     free : d.free ≡ c.free
-    statuses : length d.status ≡ length c.status
-    sending : length d.sends ≡ length c.sends
+    levels : length d.levels ≡ length c.levels
 
   resets_cond : (t : Bool) (l : ℕ) (c : Collector) → Resets c (cond t (reset_at l c) c)
-  resets_cond true l c = record { stage = refl; free = refl; statuses = length-set c.status _ _; sending = length-set c.sends _ _ }
-  resets_cond false l c = record { stage = refl; free = refl; statuses = refl; sending = refl }
+  resets_cond true l c = record { stage = refl; free = refl; levels = length-set c.levels _ _ }
+  resets_cond false l c = record { stage = refl; free = refl; levels = refl }
 
   resets_mapped : (test : ℕ → Bool) (l i : ℕ) (cs : List Collector) (n : ℕ) (d : Collector) → Resets (get_or cs n d) (get_or (map_from (λ a c. cond (test a) (reset_at l c) c) i cs) n d)
-  resets_mapped test l i [] n d = record { stage = refl; free = refl; statuses = refl; sending = refl }
+  resets_mapped test l i [] n d = record { stage = refl; free = refl; levels = refl }
   resets_mapped test l i (c ∷ cs) zero d = resets_cond (test i) l c
   resets_mapped test l i (c ∷ cs) (suc n) d = resets_mapped test l (i + 1) cs n d
 
@@ -125,7 +124,7 @@ module _ (plan : Layout) (law : Lawful plan) where
   sound_changed x l p s sound =
       record {
         shape = shape_from plan s t sound.shape refl refl (length_map_from _ 1 s.collectors) (length-set s.phases _ p) (shaped_at plan s sound.shape)
-            (λ a. (same a).statuses ∙ sound.shape.statuses a) (λ a. (same a).sending ∙ sound.shape.sending a);
+            (λ a. (same a).levels ∙ sound.shape.statuses a);
         chained = λ a low. chain_stays plan s t a refl (same a).free (λ b. refl) (sound.chained a low);
         rooted_slots = λ b r. sound.rooted_slots b (root_back s t graph b r);
         pointed_slots = λ q b e. sound.pointed_slots q b (points_back s t graph q b e);

@@ -74,5 +74,6 @@ pub record Shape (plan : Layout) (s : Memory) : Type 0 where
   pub phases : length s.phases ≡ length plan.areas
   pub blocks : (b : ℕ) (k : Block) → block_at s b ≡ Some k → BlockShape k
   pub marks : (b m : ℕ) (k : Block) (e : Entry) → block_at s b ≡ Some k → Rattle.state.specs.Blocks.entry_at k m ≡ Some e → length e.marks ≡ 3
-  pub statuses : (a : ℕ) → length (collector_at s a).status ≡ 3
-  pub sending : (a : ℕ) → length (collector_at s a).sends ≡ 3
+  -- a collector has a status, and whether it sends, for each of the three levels
+  pub statuses : (a : ℕ) → length (collector_at s a).levels ≡ 3
+  pub sending : (a : ℕ) → length (collector_at s a).levels ≡ 3

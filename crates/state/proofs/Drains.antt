@@ -1,18 +1,20 @@
 -- A drain, one mark after another: to take one mark is to take the set of that mark, and to take a set after another is to take
 -- both at once. Assumes nothing.
-use Rattle.std.proofs.Common.{◌≡◌, ℕ, zero, suc, ◌+◌, ◌-◌, ◌≤◌, Bool, true, false, cond, not, ◌&&◌, ◌||◌, eqb, leb, List, [], ◌∷◌, get_or, set, is_some, Some, None, Option, sym, refl, ap, ◌∙◌, ⊎_elim, arith}
-use mathlib.Core.Path.{fun_ext}
-use lib.Seq.{set-get_or}
+use Rattle.std.proofs.Common.{◌≡◌, ℕ, zero, suc, ◌+◌, ◌-◌, ◌≤◌, Bool, true, false, cond, not, ◌&&◌, ◌||◌, eqb, leb, List, [], ◌∷◌, get_or, set, is_some, Some, None, Option, sym, refl, ap, ◌∙◌, inl, inr, arith}
+use Rattle.std.proofs.Math.Path.{fun_ext}
+use Rattle.std.proofs.Math.Bool.{and-true, or_assoc}
 use Rattle.std.proofs.lemmas.Bool.{cases_Bool, and_parts, and_left, and_right, cond-true, cond-false, eqb-true, eqb-false}
 use Rattle.std.proofs.lemmas.Bool.Decides.{nat_tests}
+use Rattle.std.proofs.lemmas.List.{set-get_or}
 use Rattle.chain.specs.Chain.{place}
 use Rattle.post.specs.declared.Mark.{Mark}
 use Rattle.post.specs.Marks.{Waits, is_mark, same, either, Quiet}
 use Rattle.post.specs.Orders.{Run}
-use Rattle.post.specs.Sets.{sets, at, and-true, same_at, mark_parts}
+use Rattle.post.specs.Sets.{sets, at, same_at, mark_parts}
 use Rattle.post.proofs.Orders.{left}
 use Rattle.state.specs.declared.block.Block.{Block}
 use Rattle.state.specs.declared.block.Entry.{Entry}
+use Rattle.state.specs.declared.collector.AtLevel.{AtLevel}
 use Rattle.state.specs.declared.collector.Collector.{Collector}
 use Rattle.state.specs.declared.collector.Status.{Status}
 use Rattle.state.specs.declared.slot.Slot.{Slot}
@@ -41,9 +43,7 @@ memories s p q = cc
 -- Sets of which no mark is new
 
 keeps : (x t : Bool) → (t && not x) ≡ false → (x || t) ≡ x
-keeps true t h = refl
-keeps false true h = h
-keeps false false h = refl
+keeps x t h = grind (arith, h)
 
 marks_kept : (taken : ℕ → Bool) (i : ℕ) (xs : List Bool) → ((n : ℕ) → (taken (i + n) && not (get_or xs n false)) ≡ false) → map_from (λ l x. x || taken l) i xs ≡ xs
 marks_kept taken i [] h = refl
@@ -69,20 +69,16 @@ slots_kept w slots h =
 all_kept : (plan : Layout) (a : ℕ) (w : Waits) (s : Memory) → ((l : ℕ) → 2 ≤ l → newly_marked w l s.slots ≡ false) → all_taken plan a w s ≡ s
 all_kept plan a w s h =
     let statuses : noted plan a w s (collector_at s a) ≡ collector_at s a =
-    rw (map_from_keeps (λ l x. restarted (newly_marked w l s.slots && marking_above plan s a l) x) 2 (λ l x g. rw (h l g)) (collector_at s a).status) in
+    rw (map_from_keeps (λ l (x : AtLevel). record x { status = restarted (newly_marked w l s.slots && marking_above plan s a l) x.status }) 2 (λ l x g. rw (h l g)) (collector_at s a).levels) in
     memories s (slots_kept w s.slots h) (rw statuses (set-get_or s.collectors (place a) _))
 
 -- a set with no mark there has none that is new
 new_in_none : (w : Waits) (l b : ℕ) (o : Option Block) → ((m : ℕ) → w b m l ≡ false) → new_in w l b o ≡ false
 new_in_none w l b None h = refl
 new_in_none w l b (Some k) h =
-    some_from_none (λ m e. is_some e && (w b m l && not (mark_in e l))) 2 (λ m e _. and_right (is_some e) (w b m l && not (mark_in e l)) (and_left (w b m l) (not (mark_in e l)) (h m))) k.entries
+    some_from_none (λ m e. is_some e && (w b m l && not (mark_in e l))) 2 (λ m e _. let off = h m in grind arith) k.entries
 
 -- A set of marks after another
-
-or_assoc : (x y z : Bool) → ((x || y) || z) ≡ (x || (y || z))
-or_assoc true y z = refl
-or_assoc false y z = refl
 
 entry_either : (u v : ℕ → Bool) (e : Option Entry) → marked_by v (marked_by u e) ≡ marked_by (λ l. u l || v l) e
 entry_either u v None = refl
@@ -104,16 +100,11 @@ slots_either u v slots =
 
 -- a mark of either set is new just if it is new in the one, or then in the other
 mark_new : (t v x : Bool) → ((t && not x) || (v && not (x || t))) ≡ ((t || v) && not x)
-mark_new true true true = refl
-mark_new true false true = refl
-mark_new true v false = refl
-mark_new false true true = refl
-mark_new false true false = refl
-mark_new false false x = refl
+mark_new t v x = grind arith
 
 marks_new : (taken : ℕ → Bool) (v : Bool) (i n j : ℕ) → j ≡ i + n → (xs : List Bool)
     → ((taken j && not (get_or xs n false)) || (v && not (get_or (map_from (λ l x. x || taken l) i xs) n false))) ≡ ((taken j || v) && not (get_or xs n false))
-marks_new taken v i n j e [] = rw (and-true (taken j), and-true v, and-true (taken j || v))
+marks_new taken v i n j e [] = grind arith
 marks_new taken v i zero j e (x ∷ xs) = let here : i ≡ j = omega arith in rw here (mark_new (taken j) v x)
 marks_new taken v i (suc n) j e (x ∷ xs) = marks_new taken v (i + 1) n j (omega arith) xs
 
@@ -134,22 +125,19 @@ slots_new u v l g slots =
     ∙ some_from_or _ _ _ (λ b s. block_new u v l b g s.block) 1 slots
 
 restarted_either : (x y m : Bool) (t : Status) → restarted (y && m) (restarted (x && m) t) ≡ restarted ((x || y) && m) t
-restarted_either true true true t = refl
-restarted_either true false true t = refl
-restarted_either true true false t = refl
-restarted_either true false false t = refl
-restarted_either false y m t = refl
+restarted_either x y m t = grind arith
 
 module _ (plan : Layout) (a : ℕ) (u v : Waits) (s : Memory) where
   noted_either : (c : Collector) → noted plan a v (all_taken plan a u s) (noted plan a u s c) ≡ noted plan a (either u v) s c
   noted_either c =
-      ap (λ (r : List Status). record { stage = c.stage; status = r; sends = c.sends; free = c.free })
-      (map_from_map_from _ _ 2 c.status
+      ap (λ (r : List AtLevel). record c { levels = r })
+      (map_from_map_from _ _ 2 c.levels
       ∙ map_from_same _ _ 2
-      (λ l t g.
-      restarted_either (newly_marked u l s.slots) (newly_marked v l (set_all u s.slots)) (marking_above plan s a l) t
-      ∙ rw (slots_new u v l g s.slots))
-      c.status)
+      (λ l (x : AtLevel) g.
+      ap (λ t. record x { status = t })
+      (restarted_either (newly_marked u l s.slots) (newly_marked v l (set_all u s.slots)) (marking_above plan s a l) x.status
+      ∙ rw (slots_new u v l g s.slots)))
+      c.levels)
 
   all_either : all_taken plan a v (all_taken plan a u s) ≡ all_taken plan a (either u v) s
   all_either =
@@ -179,12 +167,7 @@ drained_all plan a w =
 -- One mark
 
 entry_one : (q t e x y : Bool) → (q ≡ true → x ≡ y) → (e && ((q && t) && not x)) ≡ (q && (t && (e && not y)))
-entry_one true true true x y h = rw (h refl)
-entry_one true false true x y h = refl
-entry_one false t true x y h = refl
-entry_one true true false x y h = refl
-entry_one true false false x y h = refl
-entry_one false t false x y h = refl
+entry_one q t e x y h = grind (arith, h)
 
 module _ (plan : Layout) (a : ℕ) (k : Mark) (in_area : within plan a k.block ≡ true) (from_1 : 1 ≤ k.block) (from_2 : 2 ≤ k.entry) where
   abbrev one : Waits
@@ -207,10 +190,10 @@ module _ (plan : Layout) (a : ℕ) (k : Mark) (in_area : within plan a k.block �
   is_new o l = eqb l k.level && (leb k.level (top plan) && clear_in o k.entry k.level)
 
   block_one : (l : ℕ) (o : Option Block) → new_in one l k.block o ≡ is_new o l
-  block_one l None = sym (and_right (eqb l k.level) _ (and_right (leb k.level (top plan)) false refl))
+  block_one l None = grind arith
   block_one l (Some x) =
       some_from_one (λ m e. is_some e && (one k.block m l && not (mark_in e l))) k.entry None refl
-      (λ m e h. and_right (is_some e) _ (and_left (one k.block m l) (not (mark_in e l)) (other_entry k.block m l h)))
+      (λ m e h. let off = other_entry k.block m l h in grind arith)
       2 (level_place k.entry) (omega arith) x.entries
       ∙ rw (one_at l)
       (entry_one (eqb l k.level) (leb k.level (top plan)) (is_some (entry_at x k.entry)) _ _
@@ -225,27 +208,23 @@ module _ (plan : Layout) (a : ℕ) (k : Mark) (in_area : within plan a k.block �
 
   -- to take one mark is to take the set of that mark
   mark_alone : (s : Memory) → mark_taken plan a k s ≡ all_taken plan a one s
-  mark_alone s =
-      ⊎_elim
-      (λ (can : (leb k.level (top plan) && clear_at s k.block k.entry k.level) ≡ true).
-      cond-true _ _ s can
-      ∙ memories s
-      (slots_there (λ b. eqb b k.block) (λ b m l. eqb m k.entry && eqb l k.level) one s.slots
-      (λ b m l e. in_block b m l e (and_parts (leb k.level (top plan)) _ can).0)
-      (λ b m l e. other_block b m l (eqb-false b k.block e)))
-      (ap (λ (r : List Status). set s.collectors (place a) (record { stage = (collector_at s a).stage; status = r; sends = (collector_at s a).sends; free = (collector_at s a).free }))
-      (map_from_same _ _ 2 (λ l t _. rw (slots_one l s.slots, can, and-true (eqb l k.level))) (collector_at s a).status)))
-      (λ (cannot : (leb k.level (top plan) && clear_at s k.block k.entry k.level) ≡ false).
-      cond-false _ _ s cannot ∙ sym (all_kept plan a one s (λ l _. slots_one l s.slots ∙ and_right (eqb l k.level) _ cannot)))
-      (cases_Bool (leb k.level (top plan) && clear_at s k.block k.entry k.level))
+  mark_alone s = elim (cases_Bool (leb k.level (top plan) && clear_at s k.block k.entry k.level)) [
+    | inl can ↦
+        cond-true _ _ s can
+        ∙ memories s
+        (slots_there (λ b. eqb b k.block) (λ b m l. eqb m k.entry && eqb l k.level) one s.slots
+        (λ b m l e. in_block b m l e (and_parts (leb k.level (top plan)) _ can).0)
+        (λ b m l e. other_block b m l (eqb-false b k.block e)))
+        (ap (λ (r : List AtLevel). set s.collectors (place a) (record (collector_at s a) { levels = r }))
+        (map_from_same _ _ 2 (λ l t _. rw (slots_one l s.slots, can, and-true (eqb l k.level))) (collector_at s a).levels))
+    | inr cannot ↦
+        cond-false _ _ s cannot ∙ sym (all_kept plan a one s (λ l _. slots_one l s.slots ∙ and_right (eqb l k.level) _ cannot))
+  ]
 
 -- A run of takes
 
 joined : (r t s w : Bool) → (s ≡ true → w ≡ true) → ((r && (t && s)) || (r && (t && (w && not s)))) ≡ (r && (t && w))
-joined true true true w h = sym (h refl)
-joined true true false w h = and-true w
-joined true false s w h = refl
-joined false t s w h = refl
+joined r t s w h = grind (arith, h)
 
 runs : (plan : Layout) (a size : ℕ) (ks : List Mark) (w v : Waits) (s : Memory) → ((b m l : ℕ) → w b m l ≡ true → is_mark size b m l ≡ true)
     → Run (first_in plan a) (last_of plan a) w ks v → Quiet (first_in plan a) (last_of plan a) v → marks_taken plan a ks s ≡ all_taken plan a (settable plan a w) s
@@ -253,11 +232,7 @@ runs plan a size [] w v s bounded e quiet =
     sym (all_kept plan a (settable plan a w) s (λ l _. some_from_none _ 1 (λ b x _. new_in_none (settable plan a w) l b x.block (λ m. empty b m l)) s.slots))
   where
     empty : (b m l : ℕ) → settable plan a w b m l ≡ false
-    empty b m l =
-        ⊎_elim
-        (λ (i : within plan a b ≡ true). and_right (within plan a b) _ (and_right (leb l (top plan)) (w b m l) (sym (at e b m l) ∙ quiet b m l i)))
-        (λ (o : within plan a b ≡ false). and_left (within plan a b) _ o)
-        (cases_Bool (within plan a b))
+    empty b m l = let same = at e b m l in let none = quiet b m l in grind (arith, nat_tests)
 runs plan a size (k ∷ ks) w v s bounded (u, t, r) quiet =
     let p = mark_parts size k.block k.entry k.level (bounded k.block k.entry k.level t.1) in
     runs plan a size ks u v (mark_taken plan a k s) (λ b m l h. bounded b m l (and_parts (w b m l) (not (same k b m l)) (sym (at t.2 b m l) ∙ h)).0) r quiet

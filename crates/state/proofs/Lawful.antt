@@ -1,9 +1,10 @@
 -- A plan's laws, read off the tables of its layout.
-use Rattle.std.proofs.Common.{◌≡◌, ℕ, zero, suc, ◌+◌, ◌-◌, ◌<◌, ◌≤◌, true, false, eqb, leb, List, length, get_or, sym, ap, ◌∙◌, subst, ⊎_elim, arith}
-use mathlib.Core.Path.{fun_ext}
+use Rattle.std.proofs.Common.{◌≡◌, ℕ, zero, suc, ◌+◌, ◌-◌, ◌<◌, ◌≤◌, true, false, List, length, get_or, sym, ap, ◌∙◌, subst, inl, inr, arith}
+use Rattle.std.proofs.Math.Path.{fun_ext}
 use Rattle.std.proofs.lemmas.List.FromFn.{length-map-range_with_len}
 use Rattle.std.proofs.lemmas.List.{get_or_past}
-use Rattle.std.proofs.lemmas.Bool.{cases_Bool, cases_lt, cases_eq, and_parts, and_from, leb-true, le-leb, eqb-true, cond-true, false≢true}
+use Rattle.std.proofs.lemmas.Bool.Decides.{nat_tests}
+use Rattle.std.proofs.lemmas.Bool.{cases_Bool, cases_lt, cases_eq}
 use Rattle.chain.specs.Chain.{place, numbered}
 use Rattle.chain.proofs.Chains.{numbered_parts, numbered_from}
 use Rattle.plan.specs.declared.area.Area.{Area}
@@ -34,24 +35,21 @@ module _ (areas : List Area) (plan : is_plan areas ≡ true) where
   one = numbered_from (length areas) 1 (omega arith) (numbered_parts 64 _ (plan_rules areas plan).few).0
 
   same_parent : (x : ℕ) → tabled x ≡ parent_of areas x
-  same_parent x =
-      ⊎_elim
-      (λ (t : numbered (length areas) x ≡ true). ap (λ (q : Place). q.parent) (place_read areas x nowhere t))
-      (λ (f : numbered (length areas) x ≡ false).
-      ⊎_elim
-      (λ (z : x ≡ 0).
-      let at_one : tabled 0 ≡ 0 = ap (λ (q : Place). q.parent) (place_read areas 1 nowhere one) ∙ top_parent areas plan in
-      ap tabled z ∙ at_one ∙ sym (no_parent areas x f))
-      (λ (nz : x ≡ 0 → ⊥).
-      let long : length (places_of areas) ≡ length areas = length-map-range_with_len (place_of areas) 1 (length areas) in
-      let out : length areas < x = outside x f nz in
-      ap (λ (q : Place). q.parent) (get_or_past (places_of areas) (place x) nowhere (omega (arith, long, out))) ∙ sym (no_parent areas x f))
-      (cases_eq x 0))
-      (cases_Bool (numbered (length areas) x))
+  same_parent x = elim (cases_Bool (numbered (length areas) x)) [
+    | inl t ↦ ap (λ (q : Place). q.parent) (place_read areas x nowhere t)
+    | inr f ↦ elim (cases_eq x 0) [
+      | inl z ↦
+          let at_one : tabled 0 ≡ 0 = ap (λ (q : Place). q.parent) (place_read areas 1 nowhere one) ∙ top_parent areas plan in
+          ap tabled z ∙ at_one ∙ sym (no_parent areas x f)
+      | inr nz ↦
+          let long : length (places_of areas) ≡ length areas = length-map-range_with_len (place_of areas) 1 (length areas) in
+          let out : length areas < x = outside x f nz in
+          ap (λ (q : Place). q.parent) (get_or_past (places_of areas) (place x) nowhere (omega (arith, long, out))) ∙ sym (no_parent areas x f)
+    ]
+  ]
     where
       outside : (x : ℕ) → numbered (length areas) x ≡ false → (x ≡ 0 → ⊥) → length areas < x
-      outside x f nz =
-          ⊎_elim (λ (l : length areas < x). l) (λ (l : x ≤ length areas). absurd (false≢true (sym f ∙ numbered_from (length areas) x (omega (arith, nz)) l))) (cases_lt (length areas) x)
+      outside x f nz = grind (arith, nat_tests)
 
   same_above : (a l : ℕ) → above L a l ≡ area_over areas l a
   same_above a l = ap (λ f. climb f (l - 1) a) (fun_ext same_parent)
@@ -73,23 +71,19 @@ module _ (areas : List Area) (plan : is_plan areas ≡ true) where
     same_last = ap (λ (q : Place). q.after) (place_read areas x nowhere t)
 
     within_from : (b : ℕ) → (slots_of areas x).first ≤ b → b ≤ (slots_of areas x).last → within L x b ≡ true
-    within_from b l m = and_from _ _ (le-leb _ _ (subst (λ n. n ≤ b) (sym same_first) l)) (le-leb _ _ (subst (λ n. b ≤ n) (sym same_last) m))
+    within_from b l m = grind (arith, nat_tests, same_first, same_last)
 
     within_parts : (b : ℕ) → within L x b ≡ true → ((slots_of areas x).first ≤ b) × (b ≤ (slots_of areas x).last)
-    within_parts b e =
-        let p = and_parts (leb (first_in L x) b) (leb b (last_of L x)) e in
-        (subst (λ n. n ≤ b) same_first (leb-true _ _ p.0), subst (λ n. b ≤ n) same_last (leb-true _ _ p.1))
+    within_parts b e = grind (arith, nat_tests, same_first, same_last)
 
   low_numbered : (a : ℕ) → is_lowest areas a ≡ true → numbered (length areas) a ≡ true
-  low_numbered a low = (and_parts (numbered (length areas) a) _ low).0
+  low_numbered a low = grind (arith, nat_tests)
 
   low_level : (a : ℕ) → is_lowest areas a ≡ true → (area_at areas a).level ≡ 1
-  low_level a low = eqb-true _ 1 (and_parts (numbered (length areas) a) _ low).1
+  low_level a low = grind (arith, nat_tests)
 
   some_slots : (a : ℕ) → is_lowest areas a ≡ true → 1 ≤ (area_at areas a).slots
-  some_slots a low =
-      let tests = sym (cond-true (eqb (area_at areas a).level 1) _ _ (and_parts (numbered (length areas) a) _ low).1) ∙ (plan_rules areas plan).right a (low_numbered a low) in
-      leb-true 1 _ (and_parts (leb 1 (area_at areas a).slots) _ tests).0
+  some_slots a low = let tests = (plan_rules areas plan).right a (low_numbered a low) in grind (arith, nat_tests)
 
   slots_of_low : (a : ℕ) → lowest L a ≡ true → (1 ≤ first_in L a) × (first_in L a ≤ last_of L a) × (last_of L a ≤ slot_count L)
   slots_of_low a low =
@@ -106,10 +100,7 @@ module _ (areas : List Area) (plan : is_plan areas ≡ true) where
       (h.0, within_from (home_of areas b) (low_numbered _ h.0) b h.1.0 h.1.1)
 
   slot_of_low : (a b : ℕ) → lowest L a ≡ true → within L a b ≡ true → numbered (slot_count L) b ≡ true
-  slot_of_low a b low w =
-      let p = and_parts (leb (first_in L a) b) (leb b (last_of L a)) w in
-      let s = slots_of_low a low in
-      numbered_from (slot_count L) b (omega (arith, leb-true _ _ p.0, s.0)) (omega (arith, leb-true _ _ p.1, s.2))
+  slot_of_low a b low w = let s = slots_of_low a low in grind (arith, nat_tests)
 
   only_home : (a b : ℕ) → lowest L a ≡ true → within L a b ≡ true → home L b ≡ a
   only_home a b low w =
@@ -130,12 +121,10 @@ module _ (areas : List Area) (plan : is_plan areas ≡ true) where
   over_from l a b e = sym (same_above a l) ∙ e ∙ same_above b l
 
   level_lowest : (p b l : ℕ) → numbered (slot_count L) p ≡ true → numbered (slot_count L) b ≡ true → 1 ≤ l → Together L l (home L p) (home L b) → level_of L p b ≤ l
-  level_lowest p b l np nb i e =
-      ⊎_elim
-      (λ (m : l < level_of L p b).
-      absurd (laws.apart_below (home_of areas p) (home_of areas b) l (at_home p np).0 (at_home b nb).0 i (subst (λ n. l < n) (same_level p b) m) (over_from l _ _ e)))
-      (λ (m : level_of L p b ≤ l). m)
-      (cases_lt l (level_of L p b))
+  level_lowest p b l np nb i e = elim (cases_lt l (level_of L p b)) [
+    | inl m ↦ absurd (laws.apart_below (home_of areas p) (home_of areas b) l (at_home p np).0 (at_home b nb).0 i (subst (λ n. l < n) (same_level p b) m) (over_from l _ _ e))
+    | inr m ↦ m
+  ]
 
   lawful : Lawful L
   lawful = record {

@@ -1,7 +1,7 @@
 -- Tables whose elements are numbered. Assumes nothing.
-use Rattle.std.proofs.Common.{◌≡◌, ℕ, zero, suc, ◌+◌, ◌≤◌, Bool, true, false, ◌||◌, List, [], ◌∷◌, get_or, set, sym, refl, ap, ◌∙◌, arith}
+use Rattle.std.proofs.Common.{◌≡◌, ℕ, zero, suc, ◌+◌, ◌≤◌, Bool, false, ◌||◌, List, [], ◌∷◌, get_or, set, sym, refl, ap, ◌∙◌, arith}
 use Rattle.std.proofs.lemmas.Bool.{or_parts, or_from}
-use Rattle.post.specs.Sets.{or-false}
+use Rattle.std.proofs.Math.Bool.{or-false}
 use Rattle.state.specs.Tables.{map_from, some_from}
 
 -- Mapping
@@ -25,10 +25,7 @@ some_from_map_from ok f i [] = refl
 some_from_map_from ok f i (x ∷ xs) = rw (some_from_map_from ok f (i + 1) xs)
 
 or_swap : (a b c d : Bool) → ((a || b) || (c || d)) ≡ ((a || c) || (b || d))
-or_swap true b c d = refl
-or_swap false true true d = refl
-or_swap false true false d = refl
-or_swap false false c d = refl
+or_swap a b c d = grind arith
 
 pub some_from_or : {X : Type 0} (p q r : ℕ → X → Bool) → ((n : ℕ) (x : X) → (p n x || q n x) ≡ r n x) → (i : ℕ) (xs : List X) → (some_from p i xs || some_from q i xs) ≡ some_from r i xs
 some_from_or p q r h i [] = refl

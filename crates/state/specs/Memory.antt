@@ -5,6 +5,7 @@ use Rattle.post.specs.Marks.{Waits}
 use Rattle.state.specs.declared.word.Word.{Word}
 use Rattle.state.specs.declared.block.Block.{Block}
 use Rattle.state.specs.declared.slot.Slot.{Slot}
+use Rattle.state.specs.declared.collector.AtLevel.{AtLevel}
 use Rattle.state.specs.declared.collector.Collector.{Collector}
 use Rattle.state.specs.declared.collector.Stage.{Stage}
 use Rattle.state.specs.declared.collector.Stage.TheVariants.{Resting}
@@ -32,9 +33,13 @@ pub record World : Type 0 where
 abbrev pub free_slot : ℕ → Slot
 free_slot n = record { block = None; next = n }
 
+-- Status 0 at a level, and nothing is sent for it.
+abbrev pub unstarted_level : AtLevel
+unstarted_level = record { status = Unstarted; sends = false }
+
 -- A collector at rest, with status 0 at each level and the first free slot of its area.
 abbrev pub new_collector : ℕ → Collector
-new_collector b = record { stage = Resting; status = replicate 3 Unstarted; sends = replicate 3 false; free = b }
+new_collector b = record { stage = Resting; levels = replicate 3 unstarted_level; free = b }
 
 -- Reading
 
@@ -54,10 +59,10 @@ abbrev pub phase_at : Memory → ℕ → Phase
 phase_at s a = slice_index_or s.phases (place a) Marking
 
 abbrev pub status_at : Collector → ℕ → Status
-status_at c l = slice_index_or c.status (level_place l) Unstarted
+status_at c l = (slice_index_or c.levels (level_place l) unstarted_level).status
 
 abbrev pub sends_at : Collector → ℕ → Bool
-sends_at c l = slice_index_or c.sends (level_place l) false
+sends_at c l = (slice_index_or c.levels (level_place l) unstarted_level).sends
 
 abbrev pub is_marking : Phase → Bool
 is_marking Marking = true
@@ -104,4 +109,4 @@ abbrev pub on_area : Layout → ℕ → (ℕ → Block → Block) → Memory →
 on_area plan a f s = with_slots (each_block (λ b k. cond (within plan a b) (f b k) k) s.slots) s
 
 abbrev pub at_stage : Stage → Collector → Collector
-at_stage t c = record { stage = t; status = c.status; sends = c.sends; free = c.free }
+at_stage t c = record c { stage = t }

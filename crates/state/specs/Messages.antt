@@ -2,10 +2,21 @@
 use Rattle.std.specs.Prelude.{ℕ, ◌+◌, ◌*◌, cond, ◌&&◌, List, length, Ok, Err, Result, ◌==◌, slice_index}
 use Rattle.state.specs.declared.message.Message.{Message}
 use Rattle.state.specs.declared.message.Message.TheVariants.{Make, Write, Number, Read, Copy, Turn}
+use Rattle.state.specs.declared.message.Sender.{Sender}
+use Rattle.state.specs.declared.message.Sender.TheVariants.{Airline, Airport, Crew}
 use Rattle.state.specs.declared.refusal.Refusal.{Refusal}
 use Rattle.state.specs.declared.refusal.Refusal.TheVariants.{Malformed}
 
--- A letter is its ASCII code; senders are 1 airline, 2 airport, 3 crew. A field that the message does not use is 0.
+-- Senders are 1 airline, 2 airport, 3 crew.
+abbrev pub sender_code : Sender → ℕ
+sender_code Airline = 1
+sender_code Airport = 2
+sender_code Crew = 3
+
+abbrev pub sender_of : ℕ → Result Sender Refusal
+sender_of code = cond (code == 1) (Ok Airline) (cond (code == 2) (Ok Airport) (cond (code == 3) (Ok Crew) (Err Malformed)))
+
+-- A letter is its ASCII code; a sender is its code. A field that the message does not use is 0.
 abbrev pub message_of : ℕ → ℕ → ℕ → ℕ → ℕ → Result Message Refusal
 message_of sender letter p q n =
     cond (letter == 77 && sender == 1) (Ok (Make p q n))

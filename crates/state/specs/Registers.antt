@@ -16,6 +16,10 @@ zero_registers = replicate 16 (Number 0)
 abbrev pub held : List Word → ℕ → Word
 held registers p = slice_index_or registers p (Number 0)
 
+-- Where register p stands: at its number.
+abbrev pub register_index : ℕ → Result ℕ Refusal
+register_index p = cond (is_register p) (Ok p) (Err NoRegister)
+
 abbrev pub register_at : List Word → ℕ → Result Word Refusal
 register_at registers p = cond (is_register p) (Ok (held registers p)) (Err NoRegister)
 

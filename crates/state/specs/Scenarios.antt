@@ -4,8 +4,7 @@ use Rattle.std.specs.Option.{unwrap_or}
 use Rattle.std.specs.List.{AllByRecursion}
 use Rattle.plan.specs.declared.area.Area.{Area}
 use Rattle.plan.specs.Reading.{areas_of, read_plan}
-use Rattle.plan.specs.Refusals as plan-refusals
-use Rattle.plan.specs.declared.refusal.Refusal as plan-refusal
+use Rattle.plan
 use Rattle.listing.specs.Listing.{listing}
 use Rattle.post.specs.Marks.{none}
 use Rattle.state.specs.declared.block.Block.{Block}
@@ -112,9 +111,9 @@ abbrev pub overtaken : World
 overtaken =
     called (replicate 8 (turn 3) ++ (turn 2 ∷ turn 3 ∷ turn 3 ∷ turn 2 ∷ [])) (round 2 (called (zero_register 1 ∷ []) crossed))
 
-abbrev pub plan_refusal : Result (List Area) plan-refusal.Refusal → List ℕ
+abbrev pub plan_refusal : Result (List Area) plan.specs.declared.refusal.Refusal.Refusal → List ℕ
 plan_refusal (Ok areas) = []
-plan_refusal (Err e) = unwrap_or (plan-refusals.refusal_number e) 0 ∷ plan-refusals.refusal_record e ∷ []
+plan_refusal (Err e) = unwrap_or (plan.specs.Refusals.refusal_number e) 0 ∷ plan.specs.Refusals.refusal_record e ∷ []
 
 -- How many messages of a run were accepted and refused, and the listing after it; or the number of the refusal of the whole run.
 abbrev pub tallied : Result Tally Refusal → List ℕ

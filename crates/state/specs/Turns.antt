@@ -5,6 +5,7 @@ use Rattle.post.specs.Marks.{Waits}
 use Rattle.state.specs.declared.block.Block.{Block}
 use Rattle.state.specs.declared.block.Colour.TheVariants.{White, Black}
 use Rattle.state.specs.declared.slot.Slot.{Slot}
+use Rattle.state.specs.declared.collector.AtLevel.{AtLevel}
 use Rattle.state.specs.declared.collector.Collector.{Collector}
 use Rattle.state.specs.declared.collector.Stage.{Stage}
 use Rattle.state.specs.declared.collector.Stage.TheVariants.{Resting, Pass, Sweep}
@@ -15,7 +16,7 @@ use Rattle.state.specs.declared.collector.Phase.TheVariants.{Marking, Recovering
 use Rattle.state.specs.Tables.{map_from, some_from, every_from}
 use Rattle.state.specs.Layout.{Layout, top, lowest, within, first_in, last_of, above, level_of}
 use Rattle.state.specs.Blocks.{level_place, points_to, coloured, shade, is_white, is_grey, has_entry, marked, mark_in, with_marks, with_recovered, entered_at}
-use Rattle.state.specs.Memory.{Memory, World, free_slot, block_at, collector_at, phase_at, status_at, sends_at, is_marking, in_register, with_slots, with_collectors, with_collector, with_phase, on_block, on_area, at_stage}
+use Rattle.state.specs.Memory.{Memory, World, free_slot, unstarted_level, block_at, collector_at, phase_at, status_at, sends_at, is_marking, in_register, with_slots, with_collectors, with_collector, with_phase, on_block, on_area, at_stage}
 
 -- The area over lowest area a at level l is marking; just the levels from 2 to the top have areas above.
 abbrev pub marking_above : Layout → Memory → ℕ → ℕ → Bool
@@ -36,10 +37,10 @@ is_ended Ended = true
 
 -- f done to the status of each level.
 abbrev pub on_status : (ℕ → Status → Status) → Collector → Collector
-on_status f c = record { stage = c.stage; status = map_from f 2 c.status; sends = c.sends; free = c.free }
+on_status f c = record c { levels = map_from (λ l (x : AtLevel). record x { status = f l x.status }) 2 c.levels }
 
 abbrev pub with_sends : (ℕ → Bool) → Collector → Collector
-with_sends f c = record { stage = c.stage; status = c.status; sends = map_from (λ l _. f l) 2 c.sends; free = c.free }
+with_sends f c = record c { levels = map_from (λ l (x : AtLevel). record x { sends = f l }) 2 c.levels }
 
 -- The start of a round: the drain
 
@@ -149,7 +150,7 @@ pass_turn plan a L None w = on_memory (pass_ended plan a L) w
 -- The sweep
 
 abbrev pub with_free : ℕ → Collector → Collector
-with_free b c = record { stage = c.stage; status = c.status; sends = c.sends; free = b }
+with_free b c = record c { free = b }
 
 -- A white block is recovered: its slot is put first in the area's free chain.
 abbrev pub block_recovered : ℕ → ℕ → Memory → Memory
@@ -189,7 +190,7 @@ abbrev pub some_waits : Layout → ℕ → ℕ → World → Bool
 some_waits plan x l w = some_from (λ b _. within plan x b && waits_at w.waits l b) 1 w.memory.slots
 
 abbrev pub reset_at : ℕ → Collector → Collector
-reset_at l c = record { stage = c.stage; status = slice_set c.status (level_place l) Unstarted; sends = slice_set c.sends (level_place l) false; free = c.free }
+reset_at l c = record c { levels = slice_set c.levels (level_place l) unstarted_level }
 
 -- The phase changes: the statuses there become 0, and running rounds stop sending for that level.
 abbrev pub phase_changed : Layout → ℕ → ℕ → Phase → Memory → Memory

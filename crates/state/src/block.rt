@@ -15,14 +15,15 @@ pub enum Colour {
 
 /// That pointers of one level come into the block from outside: a mark for each level from 2 on (those below the entry's own
 /// level are never set).
-#[derive(Clone, Copy)]
+#[derive(Clone, Copy, PartialEq, Eq, Debug)]
 pub struct Entry {
     pub marks: [bool; 3],
 }
 
 /// A block of up to eight words. It has at most one inward entry for each level from 2 on, and so many holds.
-#[derive(Clone, Copy)]
+#[derive(Clone, Copy, PartialEq, Eq, Debug)]
 pub struct Block {
+    // words lie in the slot, which is lent and of a fixed size: there are always eight, and the first `size` are the block's
     pub size: u8,
     pub words: [Word; 8],
     pub colour: Colour,
@@ -50,10 +51,7 @@ impl Block {
         ensures answer { result ≡ hold_on self.old block }
         ensures after { self.new ≡ held_block self.old }
     {
-        if self.holds == 255 {
-            return Err(Refusal::TooManyHolds);
-        }
-        self.holds += 1;
+        self.holds = self.holds.checked_add(1).ok_or(Refusal::TooManyHolds)?;
         Ok(Hold { block })
     }
 
@@ -62,10 +60,10 @@ impl Block {
         ensures answer { result ≡ given_back self.old hold }
         ensures after { self.new ≡ unheld_block self.old }
     {
-        if self.holds == 0 {
+        let Some(holds) = self.holds.checked_sub(1) else {
             return Err((Refusal::NoHold, hold));
-        }
-        self.holds -= 1;
+        };
+        self.holds = holds;
         let Hold { block: _ } = hold;
         Ok(())
     }

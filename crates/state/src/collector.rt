@@ -22,13 +22,18 @@ pub enum Status {
     Ended,
 }
 
-/// The collector of a lowest area: its stage; for each level from 2 on its status there and whether the running round
-/// sends marks of that level; the first free slot.
-#[derive(Clone, Copy)]
+/// What a lowest area keeps for one level: its status there, and whether the running round sends marks of that level.
+#[derive(Clone, Copy, PartialEq, Eq, Debug)]
+pub struct AtLevel {
+    pub status: Status,
+    pub sends: bool,
+}
+
+/// The collector of a lowest area: its stage; what it keeps for each level from 2 on; the first free slot.
+#[derive(Clone, Copy, PartialEq, Eq, Debug)]
 pub struct Collector {
     pub stage: Stage,
-    pub status: [Status; 3],
-    pub sends: [bool; 3],
+    pub levels: [AtLevel; 3],
     pub free: u16,
 }
 

@@ -12,7 +12,7 @@ mod word;
 
 pub use block::{Block, Colour, Entry, Hold};
 pub use claims::{drained_in_any_order, layouts_are_lawful, scenarios_come_out};
-pub use collector::{Collector, Phase, Stage, Status};
+pub use collector::{AtLevel, Collector, Phase, Stage, Status};
 pub use message::Message;
 pub use refusal::Refusal;
 pub use registers::Registers;

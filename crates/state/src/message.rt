@@ -1,6 +1,6 @@
 //! Messages: eight bytes from an airline, an airport or a crew.
 ghost use Rattle.std.specs.Prelude.{◌≡◌};
-ghost use Rattle.state.specs.Messages.{decoded, message_of};
+ghost use Rattle.state.specs.Messages.{decoded, message_of, sender_of, sender_code};
 
 use crate::refusal::Refusal;
 
@@ -21,39 +21,45 @@ pub enum Message {
     Turn { area: u8 },
 }
 
-const AIRLINE: u8 = 1;
+// Who sends a message.
+#[derive(Clone, Copy, PartialEq, Eq, Debug)]
+enum Sender {
+    Airline,
+    Airport,
+    Crew,
+}
 
-const AIRPORT: u8 = 2;
+impl TryFrom<u8> for Sender {
+    type Error = Refusal;
 
-const CREW: u8 = 3;
+    ghost try_from_gives = { λ code result. result ≡ sender_of code };
+
+    fn try_from(code: u8) -> Result<Sender, Refusal> {
+        match code {
+            1 => Ok(Sender::Airline),
+            2 => Ok(Sender::Airport),
+            3 => Ok(Sender::Crew),
+            _ => Err(Refusal::Malformed),
+        }
+    }
+}
 
 impl Message {
     // A message by its fields; a field that it does not use must be 0.
-    fn of_fields(sender: u8, letter: u8, p: u8, q: u8, n: u32) -> Result<Message, Refusal>
-        ensures { result ≡ message_of sender letter p q n }
+    fn of_fields(sender: Sender, letter: u8, p: u8, q: u8, n: u32) -> Result<Message, Refusal>
+        ensures { result ≡ message_of (sender_code sender) letter p q n }
     {
-        match (letter, sender) {
-            (b'M', AIRLINE) => Ok(Message::Make {
-                register: p,
-                area: q,
-                size: n,
+        match (sender, letter, p, q, n) {
+            (Sender::Airline, b'M', register, area, size) => Ok(Message::Make {
+                register,
+                area,
+                size,
             }),
-            (b'W', AIRLINE) => Ok(Message::Write {
-                to: p,
-                word: q,
-                from: n,
-            }),
-            (b'N', AIRLINE) if q == 0 => Ok(Message::Number {
-                register: p,
-                value: n,
-            }),
-            (b'R', CREW) => Ok(Message::Read {
-                to: p,
-                from: q,
-                word: n,
-            }),
-            (b'C', CREW) if n == 0 => Ok(Message::Copy { to: p, from: q }),
-            (b'T', AIRPORT) if p == 0 && n == 0 => Ok(Message::Turn { area: q }),
+            (Sender::Airline, b'W', to, word, from) => Ok(Message::Write { to, word, from }),
+            (Sender::Airline, b'N', register, 0, value) => Ok(Message::Number { register, value }),
+            (Sender::Crew, b'R', to, from, word) => Ok(Message::Read { to, from, word }),
+            (Sender::Crew, b'C', to, from, 0) => Ok(Message::Copy { to, from }),
+            (Sender::Airport, b'T', 0, area, 0) => Ok(Message::Turn { area }),
             _ => Err(Refusal::Malformed),
         }
     }
@@ -62,10 +68,10 @@ impl Message {
     pub fn decode(bytes: &[u8]) -> Result<Message, Refusal>
         ensures { result ≡ decoded bytes.now }
     {
-        let [sender, letter, p, q, n0, n1, n2, n3] = bytes else {
+        let &[sender, letter, p, q, n0, n1, n2, n3] = bytes else {
             return Err(Refusal::Malformed);
         };
-        let n = u32::from_le_bytes([*n0, *n1, *n2, *n3]);
-        Message::of_fields(*sender, *letter, *p, *q, n)
+        let n = u32::from_le_bytes([n0, n1, n2, n3]);
+        Message::of_fields(Sender::try_from(sender)?, letter, p, q, n)
     }
 }

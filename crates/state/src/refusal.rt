@@ -27,7 +27,7 @@ pub enum Refusal {
 }
 
 impl Refusal {
-    /// The refusal's number.
+    /// The refusal's number, which the product prescribes.
     pub fn number(self) -> u8
         ensures { result ≡ refusal_number self }
     {

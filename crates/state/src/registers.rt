@@ -1,13 +1,13 @@
 //! The register file.
 ghost use Rattle.std.specs.Prelude.{◌≡◌};
-ghost use Rattle.state.specs.Registers.{register_at, zero_registers, set_answer, copy_answer, after_set, after_copy};
+ghost use Rattle.state.specs.Registers.{register_index, register_at, zero_registers, set_answer, copy_answer, after_set, after_copy};
 ghost use Rattle.state.specs.declared.word.Word.TheVariants.{Number};
 
 use crate::refusal::Refusal;
 use crate::word::Word;
 
 /// Sixteen registers, 0 to 15, each one word.
-#[derive(Clone, Copy)]
+#[derive(Clone, Copy, PartialEq, Eq, Debug)]
 pub struct Registers {
     pub words: [Word; 16],
 }
@@ -22,14 +22,22 @@ impl Registers {
         }
     }
 
+    // Where register `p` stands.
+    fn index(p: u32) -> Result<usize, Refusal>
+        ensures { result ≡ register_index p }
+    {
+        if p < 16 {
+            Ok(p as usize)
+        } else {
+            Err(Refusal::NoRegister)
+        }
+    }
+
     /// What register `p` holds.
     pub fn get(&self, p: u32) -> Result<Word, Refusal>
         ensures { result ≡ register_at self.now.words p }
     {
-        if p >= 16 {
-            return Err(Refusal::NoRegister);
-        }
-        Ok(self.words[p as usize])
+        Ok(self.words[Registers::index(p)?])
     }
 
     /// Register `p` becomes a word that was read.
@@ -37,10 +45,7 @@ impl Registers {
         ensures answer { result ≡ set_answer p }
         ensures after { self.new.words ≡ after_set self.old.words p word }
     {
-        if p >= 16 {
-            return Err(Refusal::NoRegister);
-        }
-        self.words[p as usize] = word;
+        self.words[Registers::index(p)?] = word;
         Ok(())
     }
 
@@ -49,11 +54,8 @@ impl Registers {
         ensures answer { result ≡ copy_answer p q }
         ensures after { self.new.words ≡ after_copy self.old.words p q }
     {
-        if p >= 16 || q >= 16 {
-            return Err(Refusal::NoRegister);
-        }
-        self.words[p as usize] = self.words[q as usize];
-        Ok(())
+        let word = self.get(q)?;
+        self.read(p, word)
     }
 
     /// Register `p` becomes the number `n`.

@@ -5,16 +5,17 @@ use crate::block::Block;
 use chain::Linked;
 
 /// A slot holds a block or is free; free slots of an area are chained by `next`.
-#[derive(Clone, Copy)]
+#[derive(Clone, Copy, PartialEq, Eq, Debug)]
 pub struct Slot {
     pub block: Option<Block>,
+    // slots lie in a table that is lent, so a link is a number
     pub next: u16,
 }
 
 impl Linked for Slot {
     ghost link = { λ s. s.next };
 
-    ghost relinked = { λ s n. record { block = s.block; next = n } };
+    ghost relinked = { λ s n. record s { next = n } };
 
     ghost relinked_link = { Prim.search rules };
 
