@@ -1,6 +1,6 @@
 -- What an accepted plan's tables hold.
-use Rattle.std.proofs.Common.{◌≡◌, ℕ, zero, suc, ◌+◌, ◌-◌, ◌≤◌, true, false, eqb, List, [], ◌∷◌, ◌++◌, length, get_or, replicate, None, sum_by, Option, unwrap_or, sym, refl, ap, ◌∙◌, subst, add-one, arith}
-use Rattle.std.specs.List.{AllByRecursion}
+use Rattle.std.proofs.Common.{◌≡◌, ℕ, zero, suc, ◌+◌, ◌≤◌, true, false, eqb, List, [], ◌∷◌, ◌++◌, length, get_or, replicate, None, sum_by, Option, unwrap_or, sym, refl, ap, ◌∙◌, subst, add-one, arith}
+use Rattle.std.specs.List.{AllByRecursion, fold, range_with_len}
 use Rattle.std.proofs.lemmas.List.FromFn.{get_or-map-range_with_len}
 use Rattle.std.proofs.ByRecursion.{All-append, All-weaker}
 use Rattle.std.proofs.lemmas.List.{length-append, length-replicate}
@@ -86,15 +86,20 @@ module _ (areas : List Area) where
   pub place_within_plan : (i : ℕ) → Within 0 (slot_count areas) (place_of areas i)
   place_within_plan i = placed_all (Within 0 (slot_count areas)) (omega arith, omega arith, omega arith) (walk_of areas) (All-weaker _ (Within 0 (slot_count areas)) (λ p w. (w.0, w.1, omega (arith, w.2))) (walk_of areas) (walk_within _ 0 1 0)) i
 
--- climbing a step at a time
 pub climb_none : (areas : List Area) (i : ℕ) → climb (parent_of areas) 0 i ≡ i
 unfolding climb
 climb_none areas i = refl
 
-pub climb_more : (areas : List Area) (k i : ℕ) → 1 ≤ k → climb (parent_of areas) k i ≡ parent_of areas (climb (parent_of areas) (k - 1) i)
+-- climbing is a fold over as many numbers
+climb_first : (f : ℕ → ℕ) (k i : ℕ) → climb f k (f i) ≡ f (climb f k i)
 unfolding climb
-climb_more areas zero i l = absurd (omega arith)
-climb_more areas (suc k) i l = let e : suc k - 1 ≡ k = omega arith in rw e
+climb_first f zero i = refl
+climb_first f (suc k) i = ap f (climb_first f k i)
+
+pub climb_folds : (f : ℕ → ℕ) (k a i : ℕ) → fold (λ x _. f x) i (range_with_len a k) ≡ climb f k i
+unfolding climb
+climb_folds f zero a i = refl
+climb_folds f (suc k) a i = climb_folds f k (a + 1) (f i) ∙ climb_first f k i
 
 pub meet_none : (areas : List Area) (k l x y : ℕ) → k ≡ 0 → meet_from (parent_of areas) k l x y ≡ l
 unfolding meet_from

@@ -6,6 +6,8 @@ pub mod Homes
 pub mod Orders
 pub mod Parts
 pub mod Asked
+pub mod Nodes
+pub mod Records
 pub mod Held
 pub mod Counts
 pub mod Rules

@@ -1,14 +1,12 @@
 -- What a walk from nothing tells of the whole plan.
 use Rattle.std.proofs.Common.{◌≡◌, ℕ, ◌<◌, ◌≤◌, true, false, eqb, leb, List, [], length, Ok, Err, sym, ap, ◌∙◌, subst}
-use Rattle.std.specs.List.{AllByRecursion}
 use Rattle.std.proofs.lemmas.Bool.{eq-eqb, and_left, and_right, and_from, cond-true, cond-false}
-use Rattle.chain.specs.Chain.{numbered}
 use Rattle.plan.specs.declared.area.Area.{Area}
 use Rattle.plan.specs.declared.area.Place.{Place}
 use Rattle.plan.specs.declared.refusal.Refusal.TheVariants.{NotATree}
 use Rattle.plan.specs.Tree.{every, fits, order_of}
 use Rattle.plan.specs.Walk.{area_at, walk_of, Walked}
-use Rattle.plan.proofs.Walks.{walked_all, walked_over, walk_numbered}
+use Rattle.plan.proofs.Walks.{walked_all, walked_over}
 
 module _ (areas : List Area) (none order : List Place) (slots : ℕ) (empty : none ≡ []) (w : Walked areas (walk_of areas) 0 none [] slots order) where
   from_nothing : Walked areas (walk_of areas) 0 [] [] slots order
@@ -20,9 +18,6 @@ module _ (areas : List Area) (none order : List Place) (slots : ℕ) (empty : no
   module _ (l : length order ≤ length areas) where
     pub order_is : order ≡ walk_of areas
     order_is = (walked_all areas (walk_of areas) order slots from_nothing l).0
-
-    pub order_numbered : AllByRecursion (λ p. numbered (length areas) p.area ≡ true) order
-    order_numbered = subst (AllByRecursion (λ p. numbered (length areas) p.area ≡ true)) (sym order_is) (walk_numbered areas _ _ _ _)
 
     pub order_wrong : false ≡ every (fits areas) order → order_of areas ≡ Err NotATree
     order_wrong e = cond-false _ _ _ (and_right (eqb (area_at areas 1).next 0) _ (and_right (leb (length (walk_of areas)) (length areas)) _ (ap (every (fits areas)) (sym order_is) ∙ sym e)))

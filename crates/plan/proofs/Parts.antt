@@ -1,19 +1,23 @@
 -- The parts of the reading put together.
-use Rattle.std.proofs.Common.{◌≡◌, ℕ, ◌/◌, ◌<◌, ◌≤◌, Bool, true, false, cond, leb, List, map, length, is_some, IfSome, Some, None, Ok, Err, Option, Result, sym, refl, ap, ◌∙◌, subst, arith}
+use Rattle.std.proofs.Common.{◌≡◌, ℕ, ◌+◌, ◌/◌, ◌<◌, ◌≤◌, Bool, true, false, cond, leb, List, map, length, get_or, is_some, IfSome, Some, None, Ok, Err, Option, Result, sym, refl, ap, ◌∙◌, subst, arith}
 use Rattle.std.specs.List.{range_with_len}
 use Rattle.std.proofs.lemmas.Bool.{and_left, and_right, and_from, and_parts, leb-true, cond-true, cond-false, le-leb, lt-leb}
 use Rattle.std.proofs.lemmas.List.FromFn.{length-map-range_with_len, get_or-map-range_with_len}
+use Rattle.std.proofs.lemmas.List.{ext_get_or}
+use Rattle.std.proofs.lemmas.Simd.{map-map}
 use Rattle.chain.specs.Chain.{numbered, place}
 use Rattle.chain.proofs.Chains.{numbered_parts}
 use Rattle.plan.specs.declared.area.Area.{Area}
+use Rattle.plan.specs.declared.area.Node.{Node}
 use Rattle.plan.specs.declared.area.Place.{Place}
 use Rattle.plan.specs.declared.refusal.Refusal.{Refusal}
-use Rattle.plan.specs.declared.refusal.Refusal.TheVariants.{Length, NotATree, Slots}
+use Rattle.plan.specs.declared.refusal.Refusal.TheVariants.{Length, NotATree, Slots, TooManySlots}
 use Rattle.plan.specs.Answers.{Answers}
 use Rattle.plan.specs.Refusals.{refusal_number}
+use Rattle.plan.specs.Nodes.{areas_in, places_in, node_in, nodes_met}
 use Rattle.plan.specs.Plans.{is_plan, places_of, homes_of, tables_if, tables_of}
-use Rattle.plan.specs.Reading.{first_wrong, slots_right, slots_checked, check_tree, area_in_range, good_length, read_plan, read_records, records_read, record_in_range, area_of, areas_of, and_then}
-use Rattle.plan.specs.Tree.{every, is_tree, well_placed, only_place, place_in, order_of}
+use Rattle.plan.specs.Reading.{first_wrong, slots_right, slots_checked, check_tree, area_in_range, good_length, areas_read, read_plan, read_records, records_read, record_in_range, area_of, areas_of, and_then}
+use Rattle.plan.specs.Tree.{every, is_tree, well_placed, only_place, order_of}
 use Rattle.plan.specs.Walk.{area_at, walk_of, slots_in}
 use Rattle.plan.proofs.Conds.{ok_from, err_from}
 use Rattle.plan.proofs.Firsts.{every_from_none}
@@ -21,6 +25,15 @@ use Rattle.plan.proofs.Tests.{each_number, number_each}
 
 abbrev pub placed : List Place → ℕ → Bool
 placed ps n = every (λ i. is_some (only_place ps i)) (range_with_len 1 n)
+
+-- the areas, each read by its number
+each_area : (areas : List Area) → map (area_at areas) (range_with_len 1 (length areas)) ≡ areas
+each_area areas =
+    let none : Area = record { level = 0; child = 0; next = 0; slots = 0 } in
+    let long = length-map-range_with_len (area_at areas) 1 (length areas) in
+    ext_get_or none _ areas long (λ i l.
+    let at : place (1 + i) ≡ i = omega arith in
+    get_or-map-range_with_len (area_at areas) 1 (length areas) i (1 + i) none (omega (arith, l, long)) refl ∙ ap (λ k. get_or areas k none) at)
 
 module _ (areas : List Area) where
   no_tree : is_tree areas ≡ false → check_tree areas ≡ Err NotATree
@@ -40,16 +53,22 @@ module _ (areas : List Area) where
     pub slots_told : slots ≡ slots_in areas (walk_of areas)
     slots_told = ap (λ x. x.1) told.1
 
-    pub places_refused : (e : Refusal) → cond (placed order (length areas)) (Ok (map (place_in order) (range_with_len 1 (length areas)))) (Err NotATree) ≡ Err e → check_tree areas ≡ Err e
+    pub nodes_refused : (e : Refusal) → nodes_met areas order ≡ Err e → check_tree areas ≡ Err e
     unfolding is_tree
-    places_refused e h =
+    nodes_refused e h =
         let p = err_from (placed order (length areas)) _ _ e h in
         let f : placed (walk_of areas) (length areas) ≡ false = ap (λ ps. placed ps (length areas)) (sym order_told) ∙ p.0 in
         no_tree (and_right (well_placed areas) _ f) ∙ ap (λ x. Err x) (sym p.1)
 
-    module _ (places : List Place) (met : cond (placed order (length areas)) (Ok (map (place_in order) (range_with_len 1 (length areas)))) (Err NotATree) ≡ Ok places) where
-      pub places_told : places ≡ map (place_in (walk_of areas)) (range_with_len 1 (length areas))
-      places_told = (ok_from (placed order (length areas)) _ _ _ met).1 ∙ ap (λ ps. map (place_in ps) (range_with_len 1 (length areas))) order_told
+    module _ (nodes : List Node) (met : nodes_met areas order ≡ Ok nodes) where
+      nodes_told : nodes ≡ map (node_in areas (walk_of areas)) (range_with_len 1 (length areas))
+      nodes_told = (ok_from (placed order (length areas)) _ _ _ met).1 ∙ ap (λ ps. map (node_in areas ps) (range_with_len 1 (length areas))) order_told
+
+      pub places_told : places_in nodes ≡ places_of areas
+      places_told = ap places_in nodes_told ∙ map-map (λ (n : Node). n.place) (node_in areas (walk_of areas)) (range_with_len 1 (length areas))
+
+      pub areas_told : areas_in nodes ≡ areas
+      areas_told = ap areas_in nodes_told ∙ map-map (λ (n : Node). n.area) (node_in areas (walk_of areas)) (range_with_len 1 (length areas)) ∙ each_area areas
 
       pub is_tree_lem : is_tree areas ≡ true
       unfolding is_tree
@@ -59,7 +78,7 @@ module _ (areas : List Area) where
       slots_refused i e = cond-true _ _ _ is_tree_lem ∙ ap (slots_checked areas) (sym e)
 
       module _ (right : None ≡ first_wrong (λ i. slots_right (area_at areas i)) 1 (length areas)) where
-        pub total_refused : 1024 < slots → check_tree areas ≡ Err (Slots 0)
+        pub total_refused : 1024 < slots → check_tree areas ≡ Err TooManySlots
         total_refused l = cond-true _ _ _ is_tree_lem ∙ ap (slots_checked areas) (sym right) ∙ cond-false _ _ _ (lt-leb _ _ (subst (λ x. 1024 < x) slots_told l))
 
         pub plan_read : slots ≤ 1024 → check_tree areas ≡ Ok areas
@@ -92,7 +111,7 @@ module _ (areas : List Area) (tables : List Place × List ℕ) (made : tables_of
       inner (Some i) h = absurd (grind (arith, h))
       inner None h = (refl, last (leb (slots_in areas (walk_of areas)) 1024) h)
         where
-          last : (b : Bool) → tables_if areas (cond b (Ok areas) (Err (Slots 0))) ≡ Ok tables → b ≡ true
+          last : (b : Bool) → tables_if areas (cond b (Ok areas) (Err TooManySlots)) ≡ Ok tables → b ≡ true
           last true h = refl
           last false h = absurd (grind (arith, h))
 
@@ -116,11 +135,24 @@ pub length_refused : (bytes : List ℕ) → good_length (length bytes) ≡ false
 unfolding read_plan
 length_refused bytes e = cond-false _ _ _ e
 
-module _ (bytes : List ℕ) (good : good_length (length bytes) ≡ true) where
-  pub records_refused : (e : Refusal) → read_records bytes (length bytes / 6) ≡ Err e → read_plan bytes ≡ Err e
-  unfolding read_plan
-  records_refused e h = cond-true _ _ _ good ∙ ap (λ r. and_then r check_tree) h
+-- what is read of the row settles the rest
+pub due_refused : (bytes : List ℕ) (e : Refusal) → areas_read bytes ≡ Err e → read_plan bytes ≡ Err e
+unfolding read_plan
+due_refused bytes e = settled (good_length (length bytes))
+  where
+    settled : (b : Bool) → cond b (read_records bytes (length bytes / 6)) (Err Length) ≡ Err e → cond b (and_then (read_records bytes (length bytes / 6)) check_tree) (Err Length) ≡ Err e
+    settled true h = ap (λ r. and_then r check_tree) h
+    settled false h = h
 
+pub due_read : (bytes : List ℕ) (areas : List Area) → areas_read bytes ≡ Ok areas → read_plan bytes ≡ check_tree areas
+unfolding read_plan
+due_read bytes areas = settled (good_length (length bytes))
+  where
+    settled : (b : Bool) → cond b (read_records bytes (length bytes / 6)) (Err Length) ≡ Ok areas → cond b (and_then (read_records bytes (length bytes / 6)) check_tree) (Err Length) ≡ check_tree areas
+    settled true h = ap (λ r. and_then r check_tree) h
+    settled false h = absurd (grind (arith, h))
+
+module _ (bytes : List ℕ) (good : good_length (length bytes) ≡ true) where
   module _ (areas : List Area) (read : read_records bytes (length bytes / 6) ≡ Ok areas) where
     pub read_on : read_plan bytes ≡ check_tree areas
     unfolding read_plan

@@ -1,22 +1,12 @@
--- A test of each element of a list, an element at a time, and what it tells.
-use Rattle.std.proofs.Common.{◌≡◌, ℕ, zero, suc, ◌+◌, ◌<◌, ◌≤◌, Bool, true, false, List, [], ◌∷◌, length, get_or, drop, refl, ◌∙◌, subst, ⊎_elim, add-one, arith}
+-- A test of each element of a list, and what it tells.
+use Rattle.std.proofs.Common.{◌≡◌, ℕ, zero, suc, ◌+◌, ◌<◌, ◌≤◌, Bool, true, false, List, [], ◌∷◌, refl, subst, ⊎_elim, add-one, arith}
 use Rattle.std.specs.List.{range_with_len, AllByRecursion}
-use Rattle.std.proofs.lemmas.List.{at_drop_more, at_drop_all}
 use Rattle.std.proofs.lemmas.Bool.{and_parts, and_from, cases_eq}
 use Rattle.chain.specs.Chain.{numbered}
 use Rattle.chain.proofs.Chains.{numbered_parts, numbered_from}
 use Rattle.plan.specs.Tree.{every}
 
 module _ {X : Type 0} (ok : X → Bool) where
-  pub every_more : (xs : List X) (i : ℕ) (d : X) → i < length xs → ok (get_or xs i d) ≡ true → every ok (drop i xs) ≡ every ok (drop (i + 1) xs)
-  every_more xs i d l e = at_drop_more (every ok) xs i d l ∙ rw e
-
-  pub every_stop : (xs : List X) (i : ℕ) (d : X) → i < length xs → ok (get_or xs i d) ≡ false → every ok (drop i xs) ≡ false
-  every_stop xs i d l e = at_drop_more (every ok) xs i d l ∙ rw e
-
-  pub every_done : (xs : List X) (i : ℕ) → length xs ≤ i → every ok (drop i xs) ≡ true
-  every_done xs i l = at_drop_all (every ok) xs i l
-
   pub all_from_test : (xs : List X) → every ok xs ≡ true → AllByRecursion (λ x. ok x ≡ true) xs
   all_from_test [] e = tt
   all_from_test (x ∷ xs) e = let p = and_parts (ok x) (every ok xs) e in (p.0, all_from_test xs p.1)

@@ -1,8 +1,10 @@
 pub mod Refusals
 pub mod Walk
 pub mod Tree
+pub mod Nodes
 pub mod Reading
 pub mod Answers
 pub mod Plans
+pub mod Accepted
 pub mod Trees
 pub mod Laws

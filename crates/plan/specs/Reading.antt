@@ -4,7 +4,7 @@ use Rattle.std.specs.List.{range_with_len}
 use Rattle.chain.specs.Chain.{place}
 use Rattle.plan.specs.declared.area.Area.{Area}
 use Rattle.plan.specs.declared.refusal.Refusal.{Refusal}
-use Rattle.plan.specs.declared.refusal.Refusal.TheVariants.{Length, Record, NotATree, Slots}
+use Rattle.plan.specs.declared.refusal.Refusal.TheVariants.{Length, Record, NotATree, Slots, TooManySlots}
 use Rattle.plan.specs.Walk.{area_at, slots_in, walk_of}
 use Rattle.plan.specs.Tree.{is_tree}
 
@@ -49,9 +49,13 @@ records_read bytes n (Some i) = Err (Record i)
 abbrev pub read_records : List ℕ → ℕ → Result (List Area) Refusal
 read_records bytes n = records_read bytes n (first_wrong (record_in_range bytes n) 1 n)
 
+-- The areas of a row of 1 to 64 whole records, or why there are none.
+abbrev pub areas_read : List ℕ → Result (List Area) Refusal
+areas_read bytes = cond (good_length (length bytes)) (read_records bytes (length bytes / 6)) (Err Length)
+
 abbrev pub slots_checked : List Area → Option ℕ → Result (List Area) Refusal
 slots_checked areas (Some i) = Err (Slots i)
-slots_checked areas None = cond (nat_le (slots_in areas (walk_of areas)) 1024) (Ok areas) (Err (Slots 0))
+slots_checked areas None = cond (nat_le (slots_in areas (walk_of areas)) 1024) (Ok areas) (Err TooManySlots)
 
 -- The slots of each area are right, and together they are at most 1,024.
 abbrev pub check_slots : List Area → Result (List Area) Refusal

@@ -1,17 +1,24 @@
 // A plan that was accepted.
-ghost use Rattle.std.specs.Prelude.{◌≡◌, true};
-ghost use Rattle.plan.specs.Plans.{is_plan, places_of, homes_of};
+use crate::area::Node;
+use std::marker::Model;
 
-use crate::area::{Area, Place};
-
-// A tree of areas that keeps the rules of a plan as long as it exists: its records, where the walk meets each area, and
-// the lowest area of each slot.
+// A tree of areas that keeps the rules of a plan as long as it exists: its nodes by number, and the lowest area of each
+// slot. Callers see it as its areas.
 #[derive(Drop)]
 pub struct Plan {
-    pub(crate) areas: Vec<Area>,
-    pub(crate) places: Vec<Place>,
+    pub(crate) nodes: Vec<Node>,
     pub(crate) homes: Vec<u16>,
-    ghost accepted: { is_plan areas.items ≡ true },
-    ghost placed: { places.items ≡ places_of areas.items },
-    ghost housed: { homes.items ≡ homes_of areas.items },
+}
+
+impl Model for Plan {
+    ghost use Rattle.std.specs.Prelude.{List};
+    ghost use Rattle.plan.specs.declared.area.Area.{Area};
+    ghost use Rattle.plan.specs.Accepted.{Accepted};
+    ghost use Rattle.plan.specs.Nodes.{areas_in};
+
+    ghost Value = { List Area };
+
+    ghost view = { λ p. areas_in p.nodes.items };
+
+    ghost invariant = { λ p. Accepted p.nodes.items p.homes.items };
 }

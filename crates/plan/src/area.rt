@@ -1,16 +1,40 @@
 // What a plan's record says of an area, and where the walk meets the area.
+ghost use Rattle.std.specs.Prelude.{◌≡◌, ◌≤◌};
 ghost use Rattle.std.proofs.Common.{rules};
+ghost use Rattle.plan.specs.Nodes.{node_fits};
+ghost use Rattle.plan.specs.Reading.{slots_right};
 
 use chain::Linked;
 
-// An area as its record gives it: its level, the first of the areas below it, the next area under the same
-// parent (0 where there is none), and its own slots.
+// An area as its record gives it: its level, the first of the areas below it, the next area under the same parent, and
+// its own slots. Links are numbers, with 0 for none, since the records have this form and `chain` walks it.
 #[derive(Clone, Copy)]
 pub struct Area {
     pub level: u8,
     pub child: u16,
     pub next: u16,
     pub slots: u16,
+}
+
+impl Area {
+    // The area's own slots, as a number wide enough to add up.
+    pub(crate) fn own_slots(self) -> u32
+        ensures value { result ≡ self.slots }
+        ensures bound { result ≤ 65535 }
+    {
+        u32::from(self.slots)
+    }
+
+    // Whether it has as many slots of its own as an area of its level may.
+    pub(crate) fn has_right_slots(&self) -> bool
+        ensures { result ≡ slots_right self.now }
+    {
+        if self.level == 1 {
+            (1..=1024).contains(&self.slots)
+        } else {
+            self.slots == 0
+        }
+    }
 }
 
 impl Linked for Area {
@@ -33,8 +57,8 @@ impl Linked for Area {
     }
 }
 
-// Where the walk meets an area: at which level and under which parent (0 for the top area), and how many slots
-// come before the area's own and up to its last.
+// Where the walk meets an area: at which level and under which parent, and how many slots come before the area's own and
+// up to its last. The parent is a number too, with 0 for the top area, as the records' links are.
 #[derive(Clone, Copy)]
 pub struct Place {
     pub area: u16,
@@ -42,6 +66,23 @@ pub struct Place {
     pub parent: u16,
     pub before: u32,
     pub after: u32,
+}
+
+// An area and where the walk meets it.
+#[derive(Clone, Copy)]
+pub(crate) struct Node {
+    pub area: Area,
+    pub place: Place,
+}
+
+impl Node {
+    // Whether the area stands at its own level; just the lowest areas have no child.
+    pub fn stands_right(&self) -> bool
+        ensures { result ≡ node_fits self.now }
+    {
+        let is_lowest = self.place.level == 1;
+        self.area.level == self.place.level && (self.area.child == 0) == is_lowest
+    }
 }
 
 // A range of slots, both ends counted.

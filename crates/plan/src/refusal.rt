@@ -4,6 +4,7 @@ ghost use Rattle.plan.specs.declared.refusal.Refusal.TheVariants.{NoMemory};
 ghost use Rattle.plan.specs.Refusals.{refusal_number, refusal_record};
 
 use std::alloc::{AllocError, AllocFailed};
+use std::error::Error;
 use std::fmt;
 
 #[derive(Clone, Copy, PartialEq, Eq, Debug)]
@@ -14,8 +15,10 @@ pub enum Refusal {
     Record(u16),
     // the records are no tree of areas
     NotATree,
-    // the first record whose slots are wrong, or 0 where all the slots together are too many
+    // the first record whose slots are wrong
     Slots(u16),
+    // all the slots together are more than 1,024
+    TooManySlots,
     // no memory for the plan's tables; this one has no number
     NoMemory,
 }
@@ -29,19 +32,18 @@ impl Refusal {
             Refusal::Length => Some(1),
             Refusal::Record(_) => Some(2),
             Refusal::NotATree => Some(3),
-            Refusal::Slots(_) => Some(4),
+            Refusal::Slots(_) | Refusal::TooManySlots => Some(4),
             Refusal::NoMemory => None,
         }
     }
 
-    // The record that the refusal names, or 0.
-    pub fn record(self) -> u16
+    // The record that the refusal names.
+    pub fn record(self) -> Option<u16>
         ensures { result ≡ refusal_record self }
     {
         match self {
-            Refusal::Record(i) => i,
-            Refusal::Slots(i) => i,
-            _ => 0,
+            Refusal::Record(i) | Refusal::Slots(i) => Some(i),
+            _ => None,
         }
     }
 }
@@ -64,10 +66,12 @@ impl<T: Drop> From<AllocFailed<T>> for Refusal {
 
 impl fmt::Display for Refusal {
     fn fmt<W: fmt::Write>(&self, f: &mut fmt::Formatter<W>) -> fmt::Result {
-        let record = self.record();
+        let record = self.record().unwrap_or(0);
         match self.number() {
             Some(number) => write!(f, "refusal {number}, record {record}"),
             None => write!(f, "no memory"),
         }
     }
 }
+
+impl Error for Refusal {}

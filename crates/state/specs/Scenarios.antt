@@ -113,7 +113,7 @@ overtaken =
 
 abbrev pub plan_refusal : Result (List Area) plan.specs.declared.refusal.Refusal.Refusal → List ℕ
 plan_refusal (Ok areas) = []
-plan_refusal (Err e) = unwrap_or (plan.specs.Refusals.refusal_number e) 0 ∷ plan.specs.Refusals.refusal_record e ∷ []
+plan_refusal (Err e) = unwrap_or (plan.specs.Refusals.refusal_number e) 0 ∷ unwrap_or (plan.specs.Refusals.refusal_record e) 0 ∷ []
 
 -- How many messages of a run were accepted and refused, and the listing after it; or the number of the refusal of the whole run.
 abbrev pub tallied : Result Tally Refusal → List ℕ

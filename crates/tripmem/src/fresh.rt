@@ -14,7 +14,7 @@ const LINE: usize = 40;
 
 // The row of an area with all its slots free.
 fn fresh_row(plan: &Plan, i: u16) -> Option<Row>
-    ensures { result ≡ (if numbered (length plan.now.areas.items) i then Some (fresh_row plan.now.areas.items i) else None) }
+    ensures { result ≡ (if numbered (length plan.now) i then Some (fresh_row plan.now i) else None) }
 {
     let level = plan.area(i)?.level;
     let free = plan.slots_in(i)?;
@@ -28,7 +28,7 @@ fn fresh_row(plan: &Plan, i: u16) -> Option<Row>
 
 // The rows of all areas, in the order of their records.
 fn fresh_rows(heap: Global, plan: &Plan) -> Result<Vec<Row>, AllocError>
-    ensures { IfOk result (λ v. v.items ≡ fresh_rows plan.now.areas.items) }
+    ensures { IfOk result (λ v. v.items ≡ fresh_rows plan.now) }
 {
     let mut rows = Vec::new(heap);
     for i in 0..plan.area_count() {
@@ -42,7 +42,7 @@ fn fresh_rows(heap: Global, plan: &Plan) -> Result<Vec<Row>, AllocError>
 
 // The listing's text.
 pub fn fresh_listing(heap: Global, plan: &Plan) -> anyhow::Result<Vec<u8>>
-    ensures { IfOk result (λ v. v.items ≡ listing (fresh_rows plan.now.areas.items)) }
+    ensures { IfOk result (λ v. v.items ≡ listing (fresh_rows plan.now)) }
 {
     let rows = fresh_rows(heap, plan)?;
     let mut text = vec![in heap; 0u8; LINE * 64]?;
