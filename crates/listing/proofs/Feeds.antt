@@ -1,6 +1,7 @@
 -- A listing has a line feed for each row.
-use Rattle.std.proofs.Common.{◌≡◌, ℕ, zero, suc, ◌+◌, ◌/◌, ◌%◌, false, eqb, ltb, List, [], ◌∷◌, ◌++◌, length, decimal, refl, ◌∙◌, arith}
+use Rattle.std.proofs.Common.{◌≡◌, ℕ, zero, suc, ◌+◌, ◌/◌, ◌%◌, false, eqb, ltb, List, [], ◌∷◌, ◌++◌, length, take, decimal, sym, refl, ◌∙◌, arith}
 use Rattle.std.specs.Fmt.{digits, digit_glyph, digits_onto}
+use Rattle.std.proofs.lemmas.List.{take_at}
 use Rattle.std.proofs.lemmas.Bool.{cond_both, ne_eqb}
 use Rattle.listing.specs.Listing.{line, line_feeds, listing}
 use Rattle.listing.specs.declared.Row.{Row}
@@ -31,6 +32,10 @@ feeds_line : (row : Row) → line_feeds (line row) ≡ 1
 unfolding line
 feeds_line row = simp (feeds_append, feeds_decimal) (omega arith)
 
-pub feeds_listing : (rows : List Row) → line_feeds (listing rows) ≡ length rows
+feeds_listing : (rows : List Row) → line_feeds (listing rows) ≡ length rows
 feeds_listing [] = refl
 feeds_listing (row ∷ rows) = omega (arith, feeds_append (line row) (listing rows), feeds_line row, feeds_listing rows)
+
+-- and so has what begins with it, up to its length
+pub feeds_front : {out : List ℕ} {n : ℕ} (rows : List Row) (rest : List ℕ) → out ≡ listing rows ++ rest → n ≡ length (listing rows) → line_feeds (take n out) ≡ length rows
+feeds_front {out} {n} rows rest begins whole = rw (begins, take_at (listing rows) rest n (sym whole)) (feeds_listing rows)

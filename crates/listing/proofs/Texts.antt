@@ -1,8 +1,9 @@
 -- Text written piece by piece is the whole text written; the lengths of lines and listings.
-use Rattle.std.proofs.Common.{◌≡◌, ℕ, ◌+◌, ◌/◌, ◌^◌, ◌<◌, ◌≤◌, Bool, true, false, cond, List, [], ◌∷◌, ◌++◌, length, get_or, take, drop, Some, None, decimal, sym, refl, ap, ◌∙◌, append_assoc, add_assoc, zero-add, arith, length-append}
-use Rattle.std.proofs.lemmas.Fmt.{decimal_step}
-use Rattle.std.proofs.lemmas.List.{flat_map_more, length_push, length-take-le, take-append-drop, take_at, take_more, drop_at, drop-drop}
+use Rattle.std.proofs.Common.{◌≡◌, ℕ, ◌+◌, ◌<◌, ◌≤◌, List, [], ◌++◌, length, get_or, take, drop, decimal, sym, refl, ap, ◌∙◌, append_assoc, add_assoc, zero-add, add-zero, arith, length-append}
+use Rattle.std.proofs.lemmas.List.{flat_map_more, length-take-le, take-append-drop, take_at, take_more, drop_at, drop-drop}
 use Rattle.listing.specs.Listing.{line, listing, written}
+use Rattle.listing.specs.Writing.{Puts}
+use Rattle.listing.specs.declared.Lines.{Lines}
 use Rattle.listing.specs.declared.Row.{Row}
 
 -- a text and then another right after it
@@ -17,28 +18,36 @@ written_more out at s t room =
     rw (← append_assoc (take at out) s (drop n out), take_at p (drop n out) n front, after, length-append s t, append_assoc (take at out) s (t ++ drop (n + length t) out), append_assoc s t)
     (rw (add_assoc at (length s) (length t)))
 
--- the same of two writes, each known by an equation
-pub written_then : {mid end : List ℕ} {place : ℕ} (out : List ℕ) (at : ℕ) (s t : List ℕ) → at + length s ≤ length out → mid ≡ written out at s → place ≡ at + length s → end ≡ written mid place t → end ≡ written out at (s ++ t)
-written_then out at s t room first here second =
-    second ∙ (λ i. written (first i) (here i) t) ∙ written_more out at s t room
-
--- a text at the front
-pub written_front : (out text : List ℕ) → written out 0 text ≡ text ++ drop (length text) out
+-- no text is put where nothing changes
+pub puts_nothing : (lines : Lines) → lines.at ≤ length lines.out.now → Puts lines lines []
 unfolding written
-written_front out text = rw zero-add
+puts_nothing lines within = record {
+  after = rw add-zero (sym (take-append-drop lines.at lines.out.now));
+  place = sym (add-zero lines.at);
+  within = within;
+  size = refl;
+  memory = refl;
+}
 
--- a last digit more
-pub decimal_longer : (n : ℕ) → 10 ≤ n → n < 2 ^ 64 → length (decimal n) ≡ length (decimal (n / 10)) + 1
-decimal_longer n many small = ap length (decimal_step n many small) ∙ length_push (decimal (n / 10)) _
+-- two texts that are put, one after the other, are their joined text put
+pub puts_then : {old mid new : Lines} {s t : List ℕ} → Puts old mid s → Puts mid new t → Puts old new (s ++ t)
+puts_then {old} {mid} {new} {s} {t} first second = record {
+  after = second.after ∙ (λ i. written (first.after i) (first.place i) t) ∙ written_more old.out.now old.at s t (omega arith);
+  place = omega (arith, length-append s t);
+  within = second.within;
+  size = second.size ∙ first.size;
+  memory = second.memory ∙ first.memory;
+}
+
+-- a text that is put at the front
+pub puts_front : {old new : Lines} {text : List ℕ} → old.at ≡ 0 → Puts old new text → new.out.now ≡ text ++ drop (length text) old.out.now
+unfolding written
+puts_front {old} {new} {text} front put = put.after ∙ ap (λ at. written old.out.now at text) front ∙ rw zero-add
 
 -- a line's words, blanks and line feed are 25 bytes
 pub line_bytes : (row : Row) → length (line row) ≡ 25 + (((length (decimal row.area) + length (decimal row.level)) + length (decimal row.used)) + length (decimal row.free))
 unfolding line
 line_bytes row = simp length-append (omega arith)
-
-pub listing_append : (xs ys : List Row) → listing (xs ++ ys) ≡ listing xs ++ listing ys
-listing_append [] ys = refl
-listing_append (x ∷ xs) ys = ap (λ l. line x ++ l) (listing_append xs ys) ∙ sym (append_assoc (line x) (listing xs) (listing ys))
 
 -- the row that a read past the end gives
 abbrev pub blank : Row
@@ -47,19 +56,3 @@ blank = record { area = 0; level = 0; used = 0; free = 0 }
 -- a line more
 pub listing_more : (rows : List Row) (i : ℕ) → i < length rows → listing (take (i + 1) rows) ≡ listing (take i rows) ++ line (get_or rows i blank)
 listing_more rows i within = ap listing (take_more rows i blank within) ∙ sym (flat_map_more line [] (take i rows) (get_or rows i blank))
-
-pub length_more : (rows : List Row) (i : ℕ) → i < length rows → length (listing (take (i + 1) rows)) ≡ length (listing (take i rows)) + length (line (get_or rows i blank))
-length_more rows i within = ap length (listing_more rows i within) ∙ length-append (listing (take i rows)) (line (get_or rows i blank))
-
-pub listing_front : (rows : List Row) (i : ℕ) → length (listing (take i rows)) ≤ length (listing rows)
-listing_front rows i =
-    omega (arith, length-append (listing (take i rows)) (listing (drop i rows)), ap length (listing_append (take i rows) (drop i rows)), ap (λ l. length (listing l)) (take-append-drop i rows))
-
--- what the answer of a sum or a length with a bound says
-pub found : (fits : Bool) (size n : ℕ) → Some size ≡ cond fits (Some n) None → (fits ≡ true) × (size ≡ n)
-found true size n e = (refl, cc)
-found false size n e = let z : ◌≡◌ {A = ℕ} 0 1 = cc in absurd (omega arith)
-
-pub lost : (fits : Bool) (n : ℕ) → None ≡ cond fits (Some n) None → fits ≡ false
-lost true n e = let z : ◌≡◌ {A = ℕ} 0 1 = cc in absurd (omega arith)
-lost false n e = refl

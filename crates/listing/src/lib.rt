@@ -1,9 +1,12 @@
 //! The listing of an airport memory's areas: a line of text for each area, into memory that the caller lends.
 #![tactic(auto)]
 
-ghost use Rattle.std.specs.Prelude.{◌≡◌, ◌+◌, ◌%◌, ◌≤◌, ◌++◌, length, take, drop, IfOk, if◌then◌else◌, Some, None, Ok, Err, decimal, nat_le};
+ghost use Rattle.std.specs.Prelude.{◌≡◌, ◌≤◌, ◌^◌, ◌++◌, length, take, drop, IfOk, if◌then◌else◌, Some, None, Ok, Err, nat_le, nat_lt};
 ghost use Rattle.listing.specs.declared.Refusal.TheVariants.{Short};
-ghost use Rattle.listing.specs.Listing.{field, line, listing, line_feeds, refusal_number, written};
+ghost use Rattle.listing.specs.Listing.{line, listing, line_feeds, refusal_number};
+ghost use Rattle.listing.specs.Writing.{HasRoom, Puts};
+
+use itoa::{Buffer, Integer};
 
 /// One area of the memory: its number, its level, and how many of its slots are used and free.
 #[derive(Clone, Copy)]
@@ -33,113 +36,94 @@ impl Refusal {
 }
 
 /// The bytes of a line that are the same in every line: its words, its blanks and its line feed.
-const FIXED: usize = 25;
+const FIXED: usize = b"area  level  used  free \n".len();
 
-/// How many decimal digits `n` has.
-fn digit_count(n: u16) -> usize
-    ensures exact { result ≡ length (decimal n) }
-    ensures few { result ≤ 5 }
+/// How many bytes the digits of `n` have.
+fn digit_count<I: Integer>(n: I) -> usize
+    ensures exact { result ≡ length (I.text n) }
+    ensures few { result ≤ 40 }
 {
-    if n < 10 { 1 } else { digit_count(n / 10) + 1 }
+    Buffer::new().format(n).len()
 }
 
 /// How many bytes the line of `row` has.
-fn line_length(row: Row) -> usize
-    ensures { result ≡ length (line row) }
+#[tactic(auto, using(crate::proofs::Texts::line_bytes))]
+fn line_length(row: &Row) -> usize
+    ensures { result ≡ length (line row.now) }
 {
-    let digits = digit_count(row.area)
-        + digit_count(row.level as u16)
+    FIXED
+        + digit_count(row.area)
+        + digit_count(row.level)
         + digit_count(row.used)
-        + digit_count(row.free);
-    FIXED + digits
+        + digit_count(row.free)
 }
 
-/// The sum of `a` and `b`, where it is at most `room`.
-fn sum_within(a: usize, b: usize, room: usize) -> Option<usize>
-    ensures { result ≡ (if nat_le (a + b) room then Some (a + b) else None) }
+/// How many bytes the listing of `rows` has, if a `usize` can hold that.
+fn listing_length(rows: &[Row]) -> Option<usize>
+    ensures { let size = length (listing rows.now) in
+        result ≡ (if nat_lt size (2 ^ 64) then Some size else None) }
 {
-    if a <= room && b <= room - a {
-        Some(a + b)
-    } else {
-        None
+    rows.iter()
+        .try_fold(0usize, |total, row| total.checked_add(line_length(row)))
+}
+
+/// The memory that the caller lends, and the place in it where the next text goes.
+#[derive(Drop)]
+struct Lines<'a> {
+    out: &'a mut [u8],
+    at: usize,
+}
+
+impl Lines<'_> {
+    /// Writes `text`.
+    #[tactic(auto, using(std::proofs::lemmas::Slice::overwrites), unfolding(crate::specs::Listing::written))]
+    fn put(&mut self, text: &[u8])
+        requires { HasRoom self.old text.now }
+        ensures { Puts self.old self.new text.now }
+    {
+        let end = self.at + text.len();
+        self.out[self.at..end].copy_from_slice(text);
+        self.at = end;
     }
-}
 
-/// How many bytes the listing of `rows` has, where it has at most `room`.
-///
-/// The sum is broken off at the first line that does not fit, so no number of rows makes it wrap.
-fn listing_length(rows: &[Row], room: usize) -> Option<usize>
-    ensures { result ≡ (if nat_le (length (listing rows.now)) room then Some (length (listing rows.now)) else None) }
-{
-    let mut total = 0;
-    for row in rows {
-        total = sum_within(total, line_length(*row), room)?;
+    /// Writes the digits of `n`.
+    fn number<I: Integer>(&mut self, n: I)
+        requires { HasRoom self.old (I.text n) }
+        ensures { Puts self.old self.new (I.text n) }
+    {
+        self.put(Buffer::new().format(n).as_bytes());
     }
-    Some(total)
-}
 
-/// Writes `text` at the place `at`, and answers the place after it.
-fn put(out: &mut [u8], at: usize, text: &[u8]) -> usize
-    requires { at + length text.now ≤ length out.old }
-    ensures place { result ≡ at + length text.now }
-    ensures after { out.new ≡ written out.old at text.now }
-{
-    let end = at + text.len();
-    out[at..end].copy_from_slice(text);
-    end
-}
-
-/// The last decimal digit of `n`, in ASCII.
-fn last_digit(n: u16) -> u8
-    ensures { result ≡ 48 + n % 10 }
-{
-    b'0' + (n % 10) as u8
-}
-
-/// Writes the decimal digits of `n` at the place `at`, and answers the place after them.
-fn put_number(out: &mut [u8], at: usize, n: u16) -> usize
-    requires { at + length (decimal n) ≤ length out.old }
-    ensures place { result ≡ at + length (decimal n) }
-    ensures after { out.new ≡ written out.old at (decimal n) }
-{
-    if n < 10 {
-        return put(out, at, &[last_digit(n)]);
+    /// Writes `word` and then the number `n`.
+    fn field<I: Integer>(&mut self, word: &[u8], n: I)
+        requires { HasRoom self.old (word.now ++ I.text n) }
+        ensures { Puts self.old self.new (word.now ++ I.text n) }
+    {
+        self.put(word);
+        self.number(n);
     }
-    let last = put_number(out, at, n / 10);
-    put(out, last, &[last_digit(n)])
-}
 
-/// Writes `word` and then the number `n` at the place `at`, and answers the place after them.
-fn put_field(out: &mut [u8], at: usize, word: &[u8], n: u16) -> usize
-    requires { at + length (field word.now n) ≤ length out.old }
-    ensures place { result ≡ at + length (field word.now n) }
-    ensures after { out.new ≡ written out.old at (field word.now n) }
-{
-    let middle = put(out, at, word);
-    put_number(out, middle, n)
-}
+    /// Writes the line of `row`.
+    #[tactic(auto, using(crate::proofs::Texts::line_bytes))]
+    fn line(&mut self, row: &Row)
+        requires { HasRoom self.old (line row.now) }
+        ensures { Puts self.old self.new (line row.now) }
+    {
+        self.field(b"area ", row.area);
+        self.field(b" level ", row.level);
+        self.field(b" used ", row.used);
+        self.field(b" free ", row.free);
+        self.put(b"\n");
+    }
 
-/// Writes the line of `row` at the place `at`, and answers the place after it.
-fn put_line(out: &mut [u8], at: usize, row: Row) -> usize
-    requires { at + length (line row) ≤ length out.old }
-    ensures place { result ≡ at + length (line row) }
-    ensures after { out.new ≡ written out.old at (line row) }
-{
-    let at_level = put_field(out, at, b"area ", row.area);
-    let at_used = put_field(out, at_level, b" level ", row.level as u16);
-    let at_free = put_field(out, at_used, b" used ", row.used);
-    let at_end = put_field(out, at_free, b" free ", row.free);
-    put(out, at_end, b"\n")
-}
-
-/// Writes the lines of `rows` to the front of `out`.
-fn put_lines(out: &mut [u8], rows: &[Row])
-    requires { length (listing rows.now) ≤ length out.old }
-    ensures { out.new ≡ written out.old 0 (listing rows.now) }
-{
-    let mut at = 0;
-    for row in rows {
-        at = put_line(out, at, *row);
+    /// Writes the lines of `rows`.
+    fn listing(&mut self, rows: &[Row])
+        requires { HasRoom self.old (listing rows.now) }
+        ensures { Puts self.old self.new (listing rows.now) }
+    {
+        for row in rows {
+            self.line(row);
+        }
     }
 }
 
@@ -151,10 +135,10 @@ pub fn write_listing(rows: &[Row], out: &mut [u8]) -> Result<usize, Refusal>
     ensures after { out.new ≡ (if nat_le (length (listing rows.now)) (length out.old) then listing rows.now ++ drop (length (listing rows.now)) out.old else out.old) }
     ensures lines { IfOk result (λ n. line_feeds (take n out.new) ≡ length rows.now) }
 {
-    let Some(size) = listing_length(rows, out.len()) else {
-        return Err(Refusal::Short);
-    };
-    put_lines(out, rows);
+    let size = listing_length(rows)
+        .filter(|size| *size <= out.len())
+        .ok_or(Refusal::Short)?;
+    Lines { out, at: 0 }.listing(rows);
     Ok(size)
 }
 

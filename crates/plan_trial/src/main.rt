@@ -5,11 +5,12 @@
 // former those that a model made apart gives, to the latter those that the rules give, worked out by hand.
 #![tactic(auto)]
 
-use anyhow::anyhow;
+use anyhow::bail;
 use plan::Plan;
 use std::alloc::Global;
 use std::io::{BufRead, BufReader};
 
+// The library's digits take capitals too, and a plan here has none.
 fn digit(c: u8) -> Option<u8> {
     match c {
         b'0'..=b'9' => Some(c - b'0'),
@@ -18,25 +19,25 @@ fn digit(c: u8) -> Option<u8> {
     }
 }
 
-// The bytes of a line, up to its note.
-fn bytes_of(heap: Global, line: &[u8]) -> anyhow::Result<Vec<u8>> {
-    let mut bytes = Vec::new(heap);
-    for pair in line.chunks(2) {
-        if pair[0] == b' ' {
-            break;
-        }
-        let [high, low] = pair else {
-            return Err(anyhow!("\"half a byte\""));
-        };
-        let (Some(high), Some(low)) = (digit(*high), digit(*low)) else {
-            return Err(anyhow!("\"not hexadecimal\""));
-        };
-        bytes.push(high << 4 | low)?;
-    }
-    Ok(bytes)
+fn byte_of(pair: &[u8]) -> anyhow::Result<u8> {
+    let [high, low] = pair else {
+        bail!("\"half a byte\"");
+    };
+    let (Some(high), Some(low)) = (digit(*high), digit(*low)) else {
+        bail!("\"not hexadecimal\"");
+    };
+    Ok(high << 4 | low)
 }
 
-fn run(rt: &HostRuntime) -> anyhow::Result<()> {
+// The bytes of a line, up to its note.
+fn bytes_of(heap: Global, line: &[u8]) -> anyhow::Result<Vec<u8>> {
+    line.chunks(2)
+        .take_while(|pair| !pair.starts_with(b" "))
+        .map(byte_of)
+        .try_collect(heap)
+}
+
+fn main(rt: HostRuntime) -> anyhow::Result<()> {
     let heap = rt.alloc();
     for line in BufReader::new(heap, rt.stdin())?.lines(heap) {
         let bytes = bytes_of(heap, line?.as_bytes())?;
@@ -48,14 +49,9 @@ fn run(rt: &HostRuntime) -> anyhow::Result<()> {
     Ok(())
 }
 
-fn main(rt: HostRuntime) -> anyhow::Result<()> {
-    run(&rt)
-}
-
 #[cfg(test)]
 mod tests {
     use super::*;
-    use plan::Slots;
     use std::test::Fail;
 
     // Three levels; the walk meets areas 1, 4, 5, 2, 3, 6.
@@ -119,11 +115,6 @@ mod tests {
         (5, 7, None),
     ];
 
-    fn ends(slots: Option<Slots>) -> Option<(u16, u16)> {
-        let Slots { first, last } = slots?;
-        Some((first, last))
-    }
-
     #[test]
     fn a_plan_is_asked(rt: HostRuntime) -> Result<(), Fail> {
         let Ok(plan) = Plan::read(rt.alloc(), &THREE_LEVELS) else {
@@ -133,9 +124,9 @@ mod tests {
             (plan.area_count(), plan.slot_count(), plan.top_level()),
             (6, 9, 3)
         );
-        for i in 0..8u16 {
-            let asked = (plan.is_lowest(i), ends(plan.slots(i)), plan.slots_in(i));
-            assert_eq!(rt; asked, AREAS[i as usize]);
+        for (i, area) in (0u16..8).zip(AREAS) {
+            let ends = plan.slots(i).map(|slots| (slots.first, slots.last));
+            assert_eq!(rt; (plan.is_lowest(i), ends, plan.slots_in(i)), area);
         }
         for (slot, home) in HOMES {
             assert_eq!(rt; plan.home(slot), home);

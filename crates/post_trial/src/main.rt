@@ -2,13 +2,54 @@
 // where they differ.
 #![tactic(auto)]
 
-use post::{ChainPost, Letter, Mark, MarkTable, Post, Refusal, TablePost, drain};
+ghost use Rattle.std.specs.Prelude.{◌<◌};
+
+use post::{ChainPost, Letter, Mark, MarkTable, Post, TablePost, drain};
 use std::alloc::{AllocError, Global};
 use std::io;
 
 const BLOCKS: u8 = 9;
 
 const CALLS: u32 = 4000;
+
+// Marks whose answers differ on a post of three blocks.
+const EDGE_MARKS: [(u16, u8, u8); 10] = [
+    (0, 2, 2),
+    (1, 2, 2),
+    (3, 3, 4),
+    (4, 2, 2),
+    (65535, 2, 2),
+    (1, 1, 2),
+    (2, 3, 2),
+    (3, 4, 4),
+    (2, 2, 5),
+    (2, 255, 255),
+];
+
+// Levels, each with a first and a last block.
+const EDGE_LEVELS: [(u8, u16, u16); 8] = [
+    (2, 1, 1),
+    (3, 0, 65535),
+    (4, 0, 65535),
+    (4, 3, 1),
+    (4, 4, 65535),
+    (0, 0, 65535),
+    (255, 0, 65535),
+    (2, 0, 0),
+];
+
+// First and last blocks.
+const EDGE_RANGES: [(u16, u16); 9] = [
+    (0, 0),
+    (3, 1),
+    (2, 2),
+    (4, 65535),
+    (0, 1),
+    (1, 1),
+    (3, 3),
+    (0, 65535),
+    (0, 65535),
+];
 
 fn table_post(heap: Global, bytes: usize) -> Result<TablePost, AllocError> {
     Ok(TablePost::new(vec![in heap; 255; bytes]?))
@@ -31,24 +72,38 @@ fn mark(block: u16, entry: u8, level: u8) -> Mark {
     }
 }
 
+// Every mark of the blocks below `blocks`, and what is nearly one.
+fn candidates(heap: Global, blocks: u16) -> Result<Vec<Mark>, AllocError> {
+    let mut marks = Vec::new(heap);
+    for block in 0..blocks {
+        for entry in 0..6 {
+            for level in 0..6 {
+                marks.push(mark(block, entry, level))?;
+            }
+        }
+    }
+    Ok(marks)
+}
+
 // A linear congruential generator.
 #[derive(Drop)]
 struct Numbers(u32);
 
 impl Numbers {
-    fn below(&mut self, limit: u8) -> u8 {
+    fn below(&mut self, limit: u8) -> u8
+        requires { 0 < limit }
+        ensures { result < limit }
+    {
         self.0 = self.0.wrapping_mul(1_664_525).wrapping_add(1_013_904_223);
-        if limit == 0 {
-            return 0;
-        }
         ((self.0 >> 16) % limit as u32) as u8
     }
-}
 
-fn number_of(answer: Result<(), Refusal>) -> u8 {
-    match answer {
-        Ok(()) => 0,
-        Err(refusal) => refusal.number(),
+    // A mark, or what is nearly one.
+    fn candidate(&mut self) -> Mark {
+        let block = self.below(BLOCKS + 2) as u16;
+        let entry = self.below(4) + 1;
+        let level = self.below(4) + 2;
+        mark(block, entry, level)
     }
 }
 
@@ -63,89 +118,27 @@ fn drained<P: Post>(
     Ok(marks)
 }
 
-fn count(marks: &MarkTable, blocks: u16) -> u32 {
-    let mut n = 0u32;
-    for block in 0..blocks {
-        for entry in 0..6 {
-            for level in 0..6 {
-                if marks.has(mark(block, entry, level)) {
-                    n = n.saturating_add(1);
-                }
-            }
-        }
-    }
-    n
-}
-
-fn same_marks(one: &MarkTable, other: &MarkTable) -> bool {
-    for block in 0..BLOCKS as u16 + 2 {
-        for entry in 0..6 {
-            for level in 0..6 {
-                let k = mark(block, entry, level);
-                if one.has(k) != other.has(k) {
-                    return false;
-                }
-            }
-        }
-    }
-    true
-}
-
-fn same_levels<P: Post, Q: Post>(one: &P, other: &Q) -> bool {
-    for block in 0..BLOCKS as u16 + 2 {
-        for level in 0..6 {
-            if one.any_at_level(level, block, block) != other.any_at_level(level, block, block) {
-                return false;
-            }
-        }
-    }
-    true
+fn count(marks: &MarkTable, candidates: &[Mark]) -> usize {
+    candidates.iter().filter(|mark| marks.has(**mark)).count()
 }
 
 // A post of three blocks at its edges.
 fn edges<P: Post>(rt: &HostRuntime, post: &mut P) -> io::Result<()> {
     print!(rt; "  answers:")?;
-    for k in [
-        mark(0, 2, 2),
-        mark(1, 2, 2),
-        mark(3, 3, 4),
-        mark(4, 2, 2),
-        mark(65535, 2, 2),
-        mark(1, 1, 2),
-        mark(2, 3, 2),
-        mark(3, 4, 4),
-        mark(2, 2, 5),
-        mark(2, 255, 255),
-    ] {
-        print!(rt; " {}", number_of(post.send(k)))?;
+    for (block, entry, level) in EDGE_MARKS {
+        match post.send(mark(block, entry, level)) {
+            Ok(()) => print!(rt; " 0")?,
+            Err(refusal) => print!(rt; " {}", refusal.number())?,
+        }
     }
     println!(rt; "")?;
     print!(rt; "  any:")?;
-    for (level, first, last) in [
-        (2, 1, 1),
-        (3, 0, 65535),
-        (4, 0, 65535),
-        (4, 3, 1),
-        (4, 4, 65535),
-        (0, 0, 65535),
-        (255, 0, 65535),
-        (2, 0, 0),
-    ] {
+    for (level, first, last) in EDGE_LEVELS {
         print!(rt; " {}", post.any_at_level(level, first, last))?;
     }
     println!(rt; "")?;
     print!(rt; "  takes:")?;
-    for (first, last) in [
-        (0, 0),
-        (3, 1),
-        (2, 2),
-        (4, 65535),
-        (0, 1),
-        (1, 1),
-        (3, 3),
-        (0, 65535),
-        (0, 65535),
-    ] {
+    for (first, last) in EDGE_RANGES {
         match post.take(first, last) {
             Some(mark) => print!(rt; " block {}", mark.block)?,
             None => print!(rt; " none")?,
@@ -156,87 +149,92 @@ fn edges<P: Post>(rt: &HostRuntime, post: &mut P) -> io::Result<()> {
 
 // Every mark is sent twice, and all are taken out.
 fn fill<P: Post>(rt: &HostRuntime, post: &mut P) -> io::Result<()> {
-    let mut sent = 0u32;
-    for _ in 0..2 {
-        for block in 0..post.size().saturating_add(2) {
-            for entry in 0..6 {
-                for level in 0..6 {
-                    let answer = post.send(mark(block, entry, level));
-                    if answer.is_ok() {
-                        sent = sent.saturating_add(1);
-                    }
-                }
-            }
-        }
-    }
+    let heap = rt.alloc();
+    let marks = candidates(heap, post.size().saturating_add(2))?;
+    let sent = marks
+        .iter()
+        .chain(marks.iter())
+        .filter(|mark| post.send(**mark).is_ok())
+        .count();
     let size = post.size();
-    let marks = drained(rt.alloc(), post, 0, 65535)?;
-    let handed = count(&marks, 1026);
+    let handed = count(&drained(heap, post, 0, 65535)?, &candidates(heap, 1026)?);
     let left = post.take(0, 65535).is_some();
     println!(rt; "  size {size}: accepted {sent}, handed on {handed}, left {left}")
 }
 
-// Takes a mark from one post and the same mark from the other, which may pick another by itself: all
-// marks of its block are taken there, and the rest sent again.
-fn take_same<P: Post, Q: Post>(
+// Two posts that get the same calls, and the marks that are tried on them.
+#[derive(Drop)]
+struct Pair<P, Q> {
     heap: Global,
-    one: &mut P,
-    other: &mut Q,
-    first: u16,
-    last: u16,
-) -> Result<bool, AllocError> {
-    let Some(taken) = one.take(first, last) else {
-        return Ok(other.take(first, last).is_none());
-    };
-    let marks = drained(heap, other, taken.block, taken.block)?;
-    for entry in 0..6 {
-        for level in 0..6 {
-            let k = mark(taken.block, entry, level);
-            if marks.has(k) && k != taken {
-                let _ = other.send(k);
-            }
-        }
-    }
-    Ok(marks.has(taken) && first <= taken.block && taken.block <= last)
+    one: P,
+    other: Q,
+    candidates: Vec<Mark>,
 }
 
-// Sends a mark, or what is nearly one, to both posts, and says whether they answered alike.
-fn send_same<P: Post, Q: Post>(numbers: &mut Numbers, one: &mut P, other: &mut Q) -> (bool, u8) {
-    let block = numbers.below(BLOCKS + 2) as u16;
-    let entry = numbers.below(4).saturating_add(1);
-    let level = numbers.below(4).saturating_add(2);
-    let answer = number_of(one.send(mark(block, entry, level)));
-    (
-        answer == number_of(other.send(mark(block, entry, level))),
-        answer,
-    )
+impl<P: Post, Q: Post> Pair<P, Q> {
+    fn same_levels(&self) -> bool {
+        (0..BLOCKS as u16 + 2).all(|block| {
+            (0..6).all(|level| {
+                self.one.any_at_level(level, block, block)
+                    == self.other.any_at_level(level, block, block)
+            })
+        })
+    }
+
+    // Drains both: how many marks come out of one, and whether they come out of the other.
+    fn drain(&mut self, first: u16, last: u16) -> Result<(usize, bool), AllocError> {
+        let marks = drained(self.heap, &mut self.one, first, last)?;
+        let others = drained(self.heap, &mut self.other, first, last)?;
+        let same = self
+            .candidates
+            .iter()
+            .all(|mark| marks.has(*mark) == others.has(*mark));
+        Ok((count(&marks, &self.candidates), same))
+    }
+
+    // Takes a mark from one and the same mark from the other, which may pick another by itself: all
+    // marks of its block are taken there, and the rest sent again.
+    fn take(&mut self, first: u16, last: u16) -> Result<bool, AllocError> {
+        let Some(taken) = self.one.take(first, last) else {
+            return Ok(self.other.take(first, last).is_none());
+        };
+        let marks = drained(self.heap, &mut self.other, taken.block, taken.block)?;
+        for mark in &self.candidates {
+            if mark.block == taken.block && *mark != taken && marks.has(*mark) {
+                let _ = self.other.send(*mark);
+            }
+        }
+        Ok(marks.has(taken) && (first..=last).contains(&taken.block))
+    }
 }
 
 // One long list of calls on both posts.
-fn alike<P: Post, Q: Post>(rt: &HostRuntime, one: &mut P, other: &mut Q) -> io::Result<()> {
+fn alike<P: Post, Q: Post>(rt: &HostRuntime, pair: &mut Pair<P, Q>) -> io::Result<()> {
     let mut numbers = Numbers(1);
     let mut refused = 0u32;
-    let mut handed = 0u32;
+    let mut handed = 0usize;
     let mut differ = 0u32;
     for _ in 0..CALLS {
         let call = numbers.below(16);
         let first = numbers.below(BLOCKS + 2) as u16;
         let last = numbers.below(BLOCKS + 4) as u16;
-        let mut same = true;
-        if call == 0 {
-            let marks = drained(rt.alloc(), one, first, last)?;
-            same = same_marks(&marks, &drained(rt.alloc(), other, first, last)?);
-            handed = handed.saturating_add(count(&marks, BLOCKS as u16 + 2));
-        } else if call < 4 {
-            same = take_same(rt.alloc(), one, other, first, last)?;
-        } else {
-            let (alike, answer) = send_same(&mut numbers, one, other);
-            same = alike;
-            if answer != 0 {
-                refused = refused.saturating_add(1);
+        let same = match call {
+            0 => {
+                let (count, same) = pair.drain(first, last)?;
+                handed = handed.saturating_add(count);
+                same
             }
-        }
-        if !same || !same_levels(one, other) {
+            1..=3 => pair.take(first, last)?,
+            _ => {
+                let mark = numbers.candidate();
+                let answer = pair.one.send(mark);
+                if answer.is_err() {
+                    refused = refused.saturating_add(1);
+                }
+                answer == pair.other.send(mark)
+            }
+        };
+        if !same || !pair.same_levels() {
             differ = differ.saturating_add(1);
         }
     }
@@ -257,7 +255,11 @@ fn main(rt: HostRuntime) -> io::Result<()> {
     }
     alike(
         &rt,
-        &mut table_post(heap, BLOCKS as usize)?,
-        &mut chain_post(heap, 6 * BLOCKS as usize)?,
+        &mut Pair {
+            heap,
+            one: table_post(heap, BLOCKS as usize)?,
+            other: chain_post(heap, 6 * BLOCKS as usize)?,
+            candidates: candidates(heap, BLOCKS as u16 + 2)?,
+        },
     )
 }

@@ -30,14 +30,9 @@ fn fresh_row(plan: &Plan, i: u16) -> Option<Row>
 fn fresh_rows(heap: Global, plan: &Plan) -> Result<Vec<Row>, AllocError>
     ensures { IfOk result (λ v. v.items ≡ fresh_rows plan.now) }
 {
-    let mut rows = Vec::new(heap);
-    for i in 0..plan.area_count() {
-        let Some(row) = fresh_row(plan, i + 1) else {
-            unreachable();
-        };
-        rows.push(row)?;
-    }
-    Ok(rows)
+    (1..=plan.area_count())
+        .filter_map(|i| fresh_row(plan, i))
+        .collect(heap)
 }
 
 // The listing's text.
@@ -46,9 +41,9 @@ pub fn fresh_listing(heap: Global, plan: &Plan) -> anyhow::Result<Vec<u8>>
 {
     let rows = fresh_rows(heap, plan)?;
     let mut text = vec![in heap; 0u8; LINE * 64]?;
-    let Ok(length) = write_listing(&rows, &mut text) else {
-        return Err(anyhow!("\"the listing is longer than its memory\""));
-    };
+    let length = write_listing(&rows, &mut text).map_err(|_| anyhow!(
+        "\"the listing is longer than its memory\""
+    ))?;
     text.truncate(length);
     Ok(text)
 }

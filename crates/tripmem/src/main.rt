@@ -3,33 +3,27 @@
 
 mod fresh;
 
-use anyhow::anyhow;
+use anyhow::{bail, ensure};
 use fresh::fresh_listing;
-use plan::{Plan, Refusal};
+use plan::Plan;
 use std::fs;
 use std::io::{Read, Write};
 
 // A message carries its quotation marks itself: what `main` answers is printed bare.
-fn run(rt: &HostRuntime) -> anyhow::Result<()> {
+fn main(rt: HostRuntime) -> anyhow::Result<()> {
     let heap = rt.alloc();
-    let bytes = fs::read(rt, "plan")?;
+    let bytes = fs::read(&rt, "plan")?;
     let mut input = Vec::new(heap);
     rt.stdin().read_to_end(&mut input)?;
     let plan = match Plan::read(heap, &bytes) {
         Ok(plan) => plan,
         Err(refusal) => {
             eprintln!(rt; "plan refused: {refusal}")?;
-            return Err(anyhow!("\"plan refused\""));
+            bail!("\"plan refused\"");
         }
     };
-    if input.len() > 0 {
-        return Err(anyhow!("\"messages are not understood yet\""));
-    }
+    ensure!(input.is_empty(), "\"messages are not understood yet\"");
     let text = fresh_listing(heap, &plan)?;
     rt.stdout().write_all(&text)?;
     Ok(())
-}
-
-fn main(rt: HostRuntime) -> anyhow::Result<()> {
-    run(&rt)
 }

@@ -1,4 +1,4 @@
-use Rattle.std.proofs.Common.{◌≡◌, ℕ, ◌≤◌, cond, leb, List, ◌++◌, length, take, drop, Ok, Err, sym, ap, ◌∙◌, arith}
+use Rattle.std.proofs.Common.{rules, ◌≡◌, ℕ, ◌≤◌, cond, leb, List, ◌++◌, length, take, drop, Ok, Err, sym, ap, ◌∙◌, arith}
 use Rattle.std.proofs.lemmas.List.{append_assoc, take_at, take-take}
 use Rattle.std.proofs.lemmas.Bool.{cond-true, leb-true}
 use Rattle.listing.specs.declared.Refusal.TheVariants.{Short}
@@ -19,6 +19,7 @@ front text out out' tail n m answer after long =
 
 pub returns : goal.returns
 returns c =
+    let fits : c.write_listing.result ≡ Ok c.in_ok-length.length = search rules in
     c.truncate.ensures.items
-    ∙ front (listing c.deref.result.now) c.deref_mut.result.now c.write_listing.new.out _ c.in-Ok.length _ c.in-Ok.ensures.answer c.in-Ok.ensures.after c.deref_mut.ensures.len
+    ∙ front (listing c.deref.result.now) c.deref_mut.result.now c.write_listing.new.out _ c.in_ok-length.length _ (sym fits ∙ c.write_listing.ensures.answer) c.write_listing.ensures.after c.deref_mut.ensures.len
     ∙ ap listing (c.deref.ensures.value ∙ c.in_ok-rows.ensures)
