@@ -1,3 +1,4 @@
 pub mod Counts
 pub mod Loops
+pub mod Finds
 pub mod Orders

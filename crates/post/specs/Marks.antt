@@ -1,5 +1,5 @@
 -- A mark, a set of waiting marks, and what the calls of a post answer and leave.
-use Rattle.std.specs.Prelude.{◌≡◌, ℕ, min, Bool, true, false, cond, not, ◌&&◌, ◌||◌, Some, None, Ok, Err, Option, Result, ◌==◌, nat_le}
+use Rattle.std.specs.Prelude.{◌≡◌, ℕ, min, Bool, true, false, cond, not, ◌&&◌, ◌||◌, Some, None, Ok, Err, Option, Result, MatchOption, ◌==◌, nat_le}
 use Rattle.post.specs.declared.Mark.{Mark}
 use Rattle.post.specs.declared.Refusal.{Refusal}
 use Rattle.post.specs.declared.Refusal.TheVariants.{NoMark}
@@ -72,6 +72,13 @@ Quiet first last w = (b m l : ℕ) → within first last b ≡ true → w b m l 
 abbrev pub Found : ℕ → ℕ → Waits → Option Mark → Type 0
 Found first last w None = Quiet first last w
 Found first last w (Some k) = (within first last k.block ≡ true) × (holds w k ≡ true)
+
+-- a waiting mark of the block that passes a test, or none exactly if none passes; at k the test answers an r for which `passes k r`
+pub record FoundBy (passes : Mark → Bool → Type 0) (block : ℕ) (w : Waits) (found : Option Mark) : Type 0 where
+  pub answer :
+      MatchOption found
+      ((k : Mark) → k.block ≡ block → holds w k ≡ true → passes k false)
+      (λ k. (k.block ≡ block) × (holds w k ≡ true) × passes k true)
 
 -- what a take may do: one waiting mark of the range goes, whichever; or none waits there, and all stays
 abbrev pub Taken : ℕ → ℕ → Waits → Waits → Option Mark → Type 0

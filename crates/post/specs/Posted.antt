@@ -1,19 +1,18 @@
 -- The set that chained letters keep, after the chain of one block has changed.
-use Rattle.std.specs.Prelude.{◌≡◌, ℕ, ◌-◌, ◌*◌, ◌<◌, ◌≤◌, Bool, true, false, not, ◌&&◌, ◌||◌, List, [], ◌∷◌, map, length, set, replicate, Some, None, Vec, ◌==◌, ◌≢◌, nat_eq, slice_index, slice_index_or, slice_set, refl}
+use Rattle.std.specs.declared.alloc.Global.{Global}
+use Rattle.std.specs.Prelude.{◌≡◌, ℕ, ◌-◌, ◌*◌, ◌<◌, ◌≤◌, Bool, true, false, not, ◌&&◌, ◌||◌, List, [], ◌∷◌, map, length, set, replicate, Some, None, Option, Vec, is_some, ◌==◌, ◌≢◌, nat_eq, slice_index, slice_index_or, slice_set, refl}
 use Rattle.std.proofs.Math.Path.{sym, ap}
 use Rattle.std.proofs.Common.{subst, ◌∙◌, arith}
 use Rattle.std.proofs.Math.Logic.{⊎_elim}
 use Rattle.std.proofs.lemmas.Bool.{eqb-true, eq-eqb, ne_eqb, and_parts, and_from, and_left, and_right, cases_Bool, cases_eq, cond-true, cond-false, both_ways}
-use Rattle.std.proofs.lemmas.List.{length-map, length-set, get_or-set_same, get_or-set_other, set-set, map-set, with_items_is}
-use Rattle.std.specs.Vec.{with_items}
-use Rattle.std.specs.declared.alloc.Global.{Global}
-use Rattle.chain.specs.Chain.{numbered, link_of, among, Absent, Chain, head_of, tail_of, first_in, put_table, PutsFirst, TakesFirst}
+use Rattle.std.proofs.lemmas.List.{length-map, length-set, get_or-set_same, get_or-set_other, set-set, set-get_or, map-set}
+use Rattle.chain.specs.Chain.{numbered, link_of, among, Absent, Chain, head_of, tail_of, first_in, put_table, PutsFirst, TakesFirst, Taken}
 use Rattle.chain.proofs.Chains.{numbered_parts, numbered_from, place_within, place_apart, chain_set, changed_set}
 use Rattle.post.specs.Marks.{is_mark, mark_in, holds, same, added, without, none}
-use Rattle.post.specs.Letters.{letter_of, letter_for, links_of, entry_at, level_at, waiting, posted, chained, bears, every, some, tidy, Tidy, NoLetters}
+use Rattle.post.specs.Letters.{letter_of, letter_for, links_of, entry_at, level_at, waiting, posted, chained, bears, every, tidy, Tidy, NoLetters}
 use Rattle.post.specs.declared.Mark.{Mark}
 use Rattle.post.specs.declared.letters.Letter.{Letter}
-use Rattle.post.specs.Sets.{sets, mark_parts, not_same, same_parts, same_at, or-false, and-true}
+use Rattle.post.specs.Sets.{sets, mark_parts, not_same, same_parts, or-false, and-true}
 use Rattle.post.specs.Tables.{zero_at}
 use Rattle.post.specs.Mail.{letter_own, letter_one, absent_among, absent_from, chain_from, chain_test, visited_is}
 
@@ -21,6 +20,9 @@ use Rattle.post.specs.Mail.{letter_own, letter_one, absent_among, absent_from, c
 pub posted_marks : (heads : List ℕ) (letters : List Letter) (b m l : ℕ) → posted heads letters b m l ≡ true → is_mark (length heads) b m l ≡ true
 unfolding posted
 posted_marks heads letters b m l h = (and_parts (is_mark (length heads) b m l) _ h).0
+
+pub posted_in : (heads : Vec ℕ Global) (letters : List Letter) (b m l : ℕ) → posted heads.items letters b m l ≡ true → is_mark heads.len b m l ≡ true
+posted_in heads letters b m l h = ap (λ n. is_mark n b m l) heads.ok.0 ∙ posted_marks heads.items letters b m l h
 
 -- One block
 
@@ -33,10 +35,10 @@ every_at f (i ∷ is) h j e =
     (λ (t : nat_eq j i ≡ false). every_at f is p.1 j (sym (cond-false (j == i) true (among j is) t) ∙ e))
     (cases_Bool (j == i))
 
-among_later : (j i : ℕ) (is : List ℕ) → among j is ≡ true → among j (i ∷ is) ≡ true
+pub among_later : (j i : ℕ) (is : List ℕ) → among j is ≡ true → among j (i ∷ is) ≡ true
 among_later j i is e = ⊎_elim (cond-true (j == i) true (among j is)) (λ t. cond-false (j == i) true (among j is) t ∙ e) (cases_Bool (j == i))
 
-among_first : (i : ℕ) (is : List ℕ) → among i (i ∷ is) ≡ true
+pub among_first : (i : ℕ) (is : List ℕ) → among i (i ∷ is) ≡ true
 among_first i is = cond-true (i == i) true (among i is) (eq-eqb i i refl)
 
 every_from_lem : (f : ℕ → Bool) (is : List ℕ) → ((j : ℕ) → among j is ≡ true → f j ≡ true) → every f is ≡ true
@@ -58,10 +60,6 @@ unfolding tidy
 row_make heads letters b is c h =
     let e : waiting heads letters b ≡ is = visited_is (links_of letters) (slice_index heads (b - 1)) is c in
     rw e (and_from _ _ (chain_test (links_of letters) (slice_index heads (b - 1)) is c) (every_from_lem (bears letters (length heads) b) is h))
-
-pub row_chained : (heads : List ℕ) (letters : List Letter) (b : ℕ) → tidy heads letters b ≡ true → chained (links_of letters) (slice_index heads (b - 1)) (waiting heads letters b) ≡ true
-unfolding tidy
-row_chained heads letters b h = (and_parts (chained (links_of letters) (slice_index heads (b - 1)) (waiting heads letters b)) _ h).0
 
 -- a letter that bears a mark of block b is one of the block's six
 bears_parts : (letters : List Letter) (n b j : ℕ) → bears letters n b j ≡ true
@@ -309,17 +307,11 @@ put_done heads letters letters' k h i order room km e =
     subst (Done heads letters letters' k h) (sym e)
     (λ off table puts. (put_tidy heads letters letters' k h order room km off table puts, put_posted heads letters letters' k h order room km off table puts))
 
--- a letter that waits already
-there_already : (w s : Bool) → (s ≡ true → w ≡ true) → w ≡ (w || s)
-there_already true s h = refl
-there_already false true h = h refl
-there_already false false h = refl
-
-pub put_again : (heads : List ℕ) (letters : List Letter) (k : Mark) → mark_in (length heads) k ≡ true
-    → among (letter_for k) (waiting heads letters k.block) ≡ true → posted heads letters ≡ added k (posted heads letters)
+-- the letter of a mark that does not wait does not wait either
+pub not_among : (heads : List ℕ) (letters : List Letter) (k : Mark) → mark_in (length heads) k ≡ true
+    → holds (posted heads letters) k ≡ false → among (letter_for k) (waiting heads letters k.block) ≡ false
 unfolding posted
-put_again heads letters k km on =
-    sets (λ b m l. there_already _ (same k b m l) (λ s. same_at (posted heads letters) k b m l s ∙ and_from _ _ km on))
+not_among heads letters k km off = rw km at off
 
 -- The first letter is taken
 
@@ -405,55 +397,53 @@ take_none heads letters b h order low high takes m l =
     no_head [] e = refl
     no_head (j ∷ js) e = absurd (let z : ◌≡◌ {A = ℕ} 0 1 = cc in omega arith)
 
--- A letter of a mark level
+-- whether or not there is one, the letters are in order, and without one nothing changes
+module _ (heads : List ℕ) (letters : List Letter) (b h : ℕ) where
+  abbrev pub TakenFirst : Option ℕ → Type 0
+  TakenFirst o = Taken (length letters) (links_of letters) (slice_index heads (b - 1)) h o
 
-some_find : (f : ℕ → Bool) (is : List ℕ) → some f is ≡ true → (j : ℕ) × (among j is ≡ true) × (f j ≡ true)
-some_find f [] h = absurd (both_ways false refl h)
-some_find f (i ∷ is) h =
-    ⊎_elim
-    (λ (t : f i ≡ true). (i, among_first i is, t))
-    (λ (t : f i ≡ false). let (j, on, e) = some_find f is (sym (cond-false (f i) true (some f is) t) ∙ h) in (j, among_later j i is on, e))
-    (cases_Bool (f i))
-
-some_none : (f : ℕ → Bool) (is : List ℕ) → some f is ≡ false → (j : ℕ) → among j is ≡ true → f j ≡ false
-some_none f is h j on = ⊎_elim (λ (t : f j ≡ true). absurd (both_ways _ h (some_from_lem f is j on t))) (λ (t : f j ≡ false). t) (cases_Bool (f j))
-  where
-    some_from_lem : (f : ℕ → Bool) (is : List ℕ) (j : ℕ) → among j is ≡ true → f j ≡ true → some f is ≡ true
-    some_from_lem f [] j on e = absurd (both_ways false refl on)
-    some_from_lem f (i ∷ is) j on e =
-        ⊎_elim
-        (λ (t : nat_eq j i ≡ true). cond-true (f i) true (some f is) (ap f (sym (eqb-true j i t)) ∙ e))
-        (λ (t : nat_eq j i ≡ false).
-        let later : some f is ≡ true = some_from_lem f is j (sym (cond-false (j == i) true (among j is) t) ∙ on) e in
-        ⊎_elim (cond-true (f i) true (some f is)) (λ z. cond-false (f i) true (some f is) z ∙ later) (cases_Bool (f i)))
-        (cases_Bool (j == i))
-
-module _ (heads : List ℕ) (letters : List Letter) (b level : ℕ) (order : Tidy heads letters) (low : 1 ≤ b) (high : b ≤ length heads) where
-  pub level_some : some (λ j. nat_eq (level_at letters j) level) (waiting heads letters b) ≡ true → (m : ℕ) × (posted heads letters b m level ≡ true)
-  unfolding posted
-  level_some h =
-      let (j, on, e) = some_find (λ j. nat_eq (level_at letters j) level) (waiting heads letters b) h in
-      let q = bears_parts letters (length heads) b j ((row_from heads letters b (order b low high)).1 j on) in
-      let el : level_at letters j ≡ level = eqb-true _ _ e in
-      (entry_at letters j, ap (posted heads letters b (entry_at letters j)) (sym el) ∙ and_from _ _ q.0 (rw q.1 on))
-
-  pub level_none : some (λ j. nat_eq (level_at letters j) level) (waiting heads letters b) ≡ false → (m : ℕ) → posted heads letters b m level ≡ false
-  unfolding posted
-  level_none h m =
+  pub none_stays : TakenFirst None → slice_set heads (b - 1) h ≡ heads
+  none_stays t =
       ⊎_elim
-      (λ (t : posted heads letters b m level ≡ true).
-      let p = and_parts (is_mark (length heads) b m level) (among (letter_of b m level) (waiting heads letters b)) t in
-      let j = letter_of b m level in
+      (λ (on : numbered (length letters) (slice_index heads (b - 1)) ≡ true). absurd (both_ways false refl (ap is_some (t.0 ∙ cond-true _ _ _ on))))
+      (λ (off : numbered (length letters) (slice_index heads (b - 1)) ≡ false).
+      let stays : h ≡ slice_index heads (b - 1) = t.1 ∙ cond-false _ _ _ (ap (λ n. numbered n (slice_index heads (b - 1))) (length-map letters (λ x. x.next)) ∙ off) in
+      rw stays (set-get_or heads (b - 1) 0))
+      (cases_Bool (numbered (length letters) (slice_index heads (b - 1))))
+
+  pub taken_tidy : (o : Option ℕ) → Tidy heads letters → 1 ≤ b → b ≤ length heads → TakenFirst o → Tidy (slice_set heads (b - 1) h) letters
+  taken_tidy None order low high t = rw (none_stays t) order
+  taken_tidy (Some i) order low high t =
+      take_tidy heads letters b i h order low high t.2 (record { block = b; entry = entry_at letters i; level = level_at letters i }) refl refl refl
+
+-- The letters of a block and its marks
+
+module _ (heads : List ℕ) (letters : List Letter) (b : ℕ) (order : Tidy heads letters) (low : 1 ≤ b) (high : b ≤ length heads) where
+  -- a letter that waits bears a mark that waits
+  pub letter_posted : (j : ℕ) → among j (waiting heads letters b) ≡ true → posted heads letters b (entry_at letters j) (level_at letters j) ≡ true
+  unfolding posted
+  letter_posted j on =
+      let q = bears_parts letters (length heads) b j ((row_from heads letters b (order b low high)).1 j on) in
+      and_from _ _ q.0 (rw q.1 on)
+
+  -- a mark that waits has a letter that waits
+  pub posted_letter : (m l : ℕ) → posted heads letters b m l ≡ true
+      → (j : ℕ) × (among j (waiting heads letters b) ≡ true) × (entry_at letters j ≡ m) × (level_at letters j ≡ l)
+  unfolding posted
+  posted_letter m l on =
+      let p = and_parts (is_mark (length heads) b m l) (among (letter_of b m l) (waiting heads letters b)) on in
+      let j = letter_of b m l in
       let q = bears_parts letters (length heads) b j ((row_from heads letters b (order b low high)).1 j p.1) in
-      let o = letter_one (length heads) b (entry_at letters j) (level_at letters j) b m level q.0 p.0 q.1 in
-      absurd (both_ways _ (some_none (λ j. nat_eq (level_at letters j) level) (waiting heads letters b) h j p.1) (eq-eqb _ _ o.2)))
-      (λ (t : posted heads letters b m level ≡ false). t)
-      (cases_Bool (posted heads letters b m level))
+      let o = letter_one (length heads) b (entry_at letters j) (level_at letters j) b m l q.0 p.0 q.1 in
+      (j, p.1, o.1, o.2)
+
+pub row_chain : (heads : List ℕ) (letters : List Letter) (b : ℕ) → tidy heads letters b ≡ true → Chain (links_of letters) (slice_index heads (b - 1)) (waiting heads letters b)
+row_chain heads letters b h = (row_from heads letters b h).0
 
 -- No letter waits
 
 none_tidy : (n : ℕ) (letters : List Letter) → Tidy (replicate n 0) letters
-none_tidy n letters b low high = row_make (replicate n 0) letters b [] (zero_at n (b - 1)) (λ j on. absurd (both_ways false refl on))
+none_tidy n letters b _ _ = row_make (replicate n 0) letters b [] (zero_at n (b - 1)) (λ j on. absurd (both_ways false refl on))
 
 none_posted : (n : ℕ) (letters : List Letter) → posted (replicate n 0) letters ≡ none
 unfolding posted
@@ -462,12 +452,3 @@ none_posted n letters =
 
 pub no_letters : (n : ℕ) → NoLetters (replicate n 0)
 no_letters n = (none_tidy n, none_posted n)
-
--- heads and letters that their `Vec`s take back
-pub back : (P : List ℕ → List Letter → Type 0) (v : Vec ℕ Global) (u : Vec Letter Global) (heads : List ℕ) (letters : List Letter)
-    → length heads ≡ v.len → length letters ≡ u.len → P heads letters → P (with_items v heads).items (with_items u letters).items
-back P v u heads letters eh el h =
-    subst (λ xs. P xs (with_items u letters).items) (sym (with_items_is v heads eh)) (subst (P heads) (sym (with_items_is u letters el)) h)
-
-pub back_heads : (P : List ℕ → Type 0) (v : Vec ℕ Global) (heads : List ℕ) → length heads ≡ v.len → P heads → P (with_items v heads).items
-back_heads P v heads eh h = subst P (sym (with_items_is v heads eh)) h

@@ -4,15 +4,14 @@ use Rattle.std.proofs.Common.{sym, ◌∙◌, arith}
 use Rattle.std.proofs.Math.Path.{ap}
 use Rattle.std.proofs.Math.Logic.{⊎_elim}
 use Rattle.std.proofs.Math.Nat.{zero-div}
-use Rattle.std.specs.Vec.{with_items}
 use Rattle.std.specs.declared.alloc.Global.{Global}
-use Rattle.std.proofs.lemmas.List.{length-set, length-replicate, get_or-set_same, get_or-set_other, get_or-replicate, get_or_past, with_items_is}
-use Rattle.std.proofs.lemmas.Bool.{cases_Bool, cases_eq, ne_eqb, and_left, and_right, and_parts, cases_lt, cond-true}
+use Rattle.std.proofs.lemmas.List.{length-set, length-replicate, get_or-set_same, get_or-set_other, get_or-replicate, get_or_past, get_or_read_under}
+use Rattle.std.proofs.lemmas.Bool.{cases_Bool, cases_eq, ne_eqb, and_left, and_right, and_parts, cases_lt}
 use Rattle.std.proofs.lemmas.Bool.Decides.{nat_tests}
 use Rattle.std.proofs.lemmas.Nat.{and_mask}
 use Rattle.post.specs.Bits.{or_bit, xor_bit}
 use Rattle.post.specs.Sets.{mark_parts, not_same, sets, or-false, and-true}
-use Rattle.post.specs.Marks.{is_mark, mark_in, same, added, without, none, holds, sent}
+use Rattle.post.specs.Marks.{is_mark, mark_in, same, added, without, none, holds}
 use Rattle.post.specs.Table.{kept, bit_on, place}
 use Rattle.post.specs.declared.Mark.{Mark}
 
@@ -95,12 +94,18 @@ pub kept_zero : (t : List ℕ) (b m l : ℕ) → slice_index t (b - 1) ≡ 0 →
 unfolding kept
 kept_zero t b m l e = and_right _ _ (ap (λ x. bit_on x (place m l)) e ∙ zero_bit (place m l))
 
--- a table that a `Vec` takes back
-pub refilled_kept : (v : Vec ℕ Global) (ws : List ℕ) → length ws ≡ v.len → kept (with_items v ws).items ≡ kept ws
-refilled_kept v ws e = ap kept (with_items_is v ws e)
+-- A table in a `Vec`
 
--- and in which a mark was put
-pub sent_kept : (v : Vec ℕ Global) (t ws : List ℕ) (k : Mark) → length ws ≡ v.len → t ≡ v.items → kept ws ≡ added k (kept t)
-    → mark_in v.len k ≡ true → kept (with_items v ws).items ≡ sent v.len k (kept v.items)
-sent_kept v t ws k long e put on =
-    refilled_kept v ws long ∙ put ∙ ap (λ (u : List ℕ). added k (kept u)) e ∙ sym (cond-true (mark_in v.len k) (added k (kept v.items)) (kept v.items) on)
+pub kept_in : (t : Vec ℕ Global) (b m l : ℕ) → kept t.items b m l ≡ true → is_mark t.len b m l ≡ true
+kept_in t b m l h = ap (λ n. is_mark n b m l) t.ok.0 ∙ kept_marks t.items b m l h
+
+pub in_items : (t : Vec ℕ Global) (k : Mark) → mark_in t.len k ≡ true → mark_in (length t.items) k ≡ true
+in_items t k on = ap (λ n. mark_in n k) (sym t.ok.0) ∙ on
+
+-- what is read at a block
+pub block_read : (t : Vec ℕ Global) (b x : ℕ) → 1 ≤ b → b ≤ t.len → x ≡ slice_index_or t.items (b - 1) x → x ≡ slice_index t.items (b - 1)
+block_read t b x low high e = get_or_read_under t.items (b - 1) t.len x 0 e (omega arith) t.ok.0
+
+-- and at the block of a mark
+pub mark_read : (t : Vec ℕ Global) (k : Mark) (x : ℕ) → mark_in t.len k ≡ true → x ≡ slice_index_or t.items (k.block - 1) x → x ≡ slice_index t.items (k.block - 1)
+mark_read t k x on e = let p = mark_parts t.len k.block k.entry k.level on in block_read t k.block x p.0 p.1 e

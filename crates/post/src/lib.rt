@@ -3,17 +3,20 @@
 // it may be known, so what is proved here over any post holds over any transport.
 #![tactic(auto)]
 
+mod blockwise;
 mod letters;
 mod made;
 mod table;
 
-ghost use Rattle.std.specs.Prelude.{◌≡◌, ℕ, ◌*◌, ◌≤◌, Bool, true, vec_len};
+ghost use Rattle.std.specs.Prelude.{◌≡◌, ℕ, ◌+◌, ◌≤◌, ◌==◌, Bool, true, min, max, vec_len};
 ghost use Rattle.post.specs.Marks.{refusal_number, is_mark, mark_in, sent, send_answer, inside, outside, either, marks_of, Taken, AnyAt};
 ghost use Rattle.post.specs.Table.{place};
-ghost use Rattle.post.specs.Letters.{Tidy};
 ghost use Rattle.post.specs.Orders.{AnyOrder, StaysIn};
 
+use letters::Chains;
 pub use letters::Letter;
+use std::ops::Range;
+use table::Table;
 
 // Names a block, an entry level and a mark level.
 #[derive(Clone, Copy, PartialEq, Eq, Debug)]
@@ -33,6 +36,13 @@ impl Mark {
             && 2 <= self.entry
             && self.entry <= self.level
             && self.level <= 4
+    }
+
+    // Whether it has that mark level.
+    pub(crate) fn is_at(self, level: u8) -> bool
+        ensures { result ≡ (self.level == level) }
+    {
+        self.level == level
     }
 
     // The place of its pair of levels among the bits of a byte: 0, 1, 2, 3, 4 or 6.
@@ -61,7 +71,24 @@ impl Refusal {
     }
 }
 
-// A range of blocks may be any two numbers: where it names no block of the post, nothing waits in it.
+// A range of blocks, both ends counted. It may be any two numbers.
+#[derive(Clone, Copy, PartialEq, Eq, Debug)]
+pub struct Blocks {
+    pub first: u16,
+    pub last: u16,
+}
+
+impl Blocks {
+    // Those of the blocks 1 to `size` that are in the range.
+    pub(crate) fn among(self, size: usize) -> Range<usize>
+        ensures start { result.start ≡ max self.first 1 }
+        ensures end { result.end ≡ min self.last size + 1 }
+    {
+        (self.first as usize).max(1)..(self.last as usize).min(size) + 1
+    }
+}
+
+// Where a range names no block of the post, nothing waits in it.
 pub trait Post {
     ghost size: { Self → ℕ };
 
@@ -78,13 +105,13 @@ pub trait Post {
         ensures after { waits self.new ≡ sent (size self.old) mark (waits self.old) };
 
     // Removes one waiting mark of the range and answers it, whichever it is, or answers none.
-    fn take(&mut self, first: u16, last: u16) -> Option<Mark>
+    fn take(&mut self, range: Blocks) -> Option<Mark>
         ensures size { size self.new ≡ size self.old }
-        ensures taken { Taken first last (waits self.old) (waits self.new) result };
+        ensures taken { Taken range.first range.last (waits self.old) (waits self.new) result };
 
     // Whether a mark of that mark level waits in the range.
-    fn any_at_level(&self, level: u8, first: u16, last: u16) -> bool
-        ensures { AnyAt level first last (waits self.now) result };
+    fn any_at_level(&self, level: u8, range: Blocks) -> bool
+        ensures { AnyAt level range.first range.last (waits self.now) result };
 
     ghost bounded: { (p : Self) (b m l : ℕ) → waits p b m l ≡ true → is_mark (size p) b m l ≡ true };
 }
@@ -92,19 +119,15 @@ pub trait Post {
 // A post that keeps its marks in a table with a byte for each block.
 #[derive(Drop)]
 pub struct TablePost {
-    table: Vec<u8>,
-    ghost short: { vec_len table ≤ 1024 },
+    table: Table,
+    ghost short: { vec_len table.bytes ≤ 1024 },
 }
 
 // A post that keeps its marks in letters: each mark has a letter of its own, so that a send never
 // lacks one, and the letters that wait for a block are chained from the block's head.
 #[derive(Drop)]
 pub struct ChainPost {
-    heads: Vec<u16>,
-    letters: Vec<Letter>,
-    ghost short: { vec_len heads ≤ 1024 },
-    ghost room: { 6 * vec_len heads ≤ vec_len letters },
-    ghost tidy: { Tidy heads.items letters.items },
+    chains: Chains,
 }
 
 // What marks are handed on to: it gains those of the blocks that it has room for, and no others.
@@ -121,20 +144,20 @@ pub trait Receiver {
 // A set of marks in a table, with room for a block for each byte.
 #[derive(Drop)]
 pub struct MarkTable {
-    marks: Vec<u8>,
+    marks: Table,
 }
 
-// Takes every mark that waits in the blocks from `first` to `last`, and hands each on. One take and
-// one receive for each such mark, and one take that finds none.
-pub fn drain<P: Post, R: Receiver>(post: &mut P, first: u16, last: u16, to: &mut R)
+// Takes every mark that waits in the range, and hands each on. One take and one receive for each
+// such mark, and one take that finds none.
+pub fn drain<P: Post, R: Receiver>(post: &mut P, range: Blocks, to: &mut R)
     ensures size { P.size post.new ≡ P.size post.old }
-    ensures after { P.waits post.new ≡ outside first last (P.waits post.old) }
+    ensures after { P.waits post.new ≡ outside range.first range.last (P.waits post.old) }
     ensures room { R.room to.new ≡ R.room to.old }
-    ensures handed { R.got to.new ≡ either (R.got to.old) (marks_of (R.room to.old) (inside first last (P.waits post.old))) }
-    ensures whole { P.size post.old ≤ R.room to.old → R.got to.new ≡ either (R.got to.old) (inside first last (P.waits post.old)) }
+    ensures handed { R.got to.new ≡ either (R.got to.old) (marks_of (R.room to.old) (inside range.first range.last (P.waits post.old))) }
+    ensures whole { P.size post.old ≤ R.room to.old → R.got to.new ≡ either (R.got to.old) (inside range.first range.last (P.waits post.old)) }
 {
     loop {
-        let Some(mark) = post.take(first, last) else {
+        let Some(mark) = post.take(range) else {
             break;
         };
         to.receive(mark);

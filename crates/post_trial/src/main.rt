@@ -4,7 +4,7 @@
 
 ghost use Rattle.std.specs.Prelude.{◌<◌};
 
-use post::{ChainPost, Letter, Mark, MarkTable, Post, TablePost, drain};
+use post::{Blocks, ChainPost, Letter, Mark, MarkTable, Post, TablePost, drain};
 use std::alloc::{AllocError, Global};
 use std::io;
 
@@ -50,6 +50,15 @@ const EDGE_RANGES: [(u16, u16); 9] = [
     (0, 65535),
     (0, 65535),
 ];
+
+const ALL: Blocks = Blocks {
+    first: 0,
+    last: 65535,
+};
+
+fn blocks(first: u16, last: u16) -> Blocks {
+    Blocks { first, last }
+}
 
 fn table_post(heap: Global, bytes: usize) -> Result<TablePost, AllocError> {
     Ok(TablePost::new(vec![in heap; 255; bytes]?))
@@ -107,14 +116,9 @@ impl Numbers {
     }
 }
 
-fn drained<P: Post>(
-    heap: Global,
-    post: &mut P,
-    first: u16,
-    last: u16,
-) -> Result<MarkTable, AllocError> {
+fn drained<P: Post>(heap: Global, post: &mut P, range: Blocks) -> Result<MarkTable, AllocError> {
     let mut marks = MarkTable::new(vec![in heap; 255; 1024]?);
-    drain(post, first, last, &mut marks);
+    drain(post, range, &mut marks);
     Ok(marks)
 }
 
@@ -134,12 +138,12 @@ fn edges<P: Post>(rt: &HostRuntime, post: &mut P) -> io::Result<()> {
     println!(rt; "")?;
     print!(rt; "  any:")?;
     for (level, first, last) in EDGE_LEVELS {
-        print!(rt; " {}", post.any_at_level(level, first, last))?;
+        print!(rt; " {}", post.any_at_level(level, blocks(first, last)))?;
     }
     println!(rt; "")?;
     print!(rt; "  takes:")?;
     for (first, last) in EDGE_RANGES {
-        match post.take(first, last) {
+        match post.take(blocks(first, last)) {
             Some(mark) => print!(rt; " block {}", mark.block)?,
             None => print!(rt; " none")?,
         }
@@ -157,8 +161,8 @@ fn fill<P: Post>(rt: &HostRuntime, post: &mut P) -> io::Result<()> {
         .filter(|mark| post.send(**mark).is_ok())
         .count();
     let size = post.size();
-    let handed = count(&drained(heap, post, 0, 65535)?, &candidates(heap, 1026)?);
-    let left = post.take(0, 65535).is_some();
+    let handed = count(&drained(heap, post, ALL)?, &candidates(heap, 1026)?);
+    let left = post.take(ALL).is_some();
     println!(rt; "  size {size}: accepted {sent}, handed on {handed}, left {left}")
 }
 
@@ -174,17 +178,17 @@ struct Pair<P, Q> {
 impl<P: Post, Q: Post> Pair<P, Q> {
     fn same_levels(&self) -> bool {
         (0..BLOCKS as u16 + 2).all(|block| {
+            let range = blocks(block, block);
             (0..6).all(|level| {
-                self.one.any_at_level(level, block, block)
-                    == self.other.any_at_level(level, block, block)
+                self.one.any_at_level(level, range) == self.other.any_at_level(level, range)
             })
         })
     }
 
     // Drains both: how many marks come out of one, and whether they come out of the other.
-    fn drain(&mut self, first: u16, last: u16) -> Result<(usize, bool), AllocError> {
-        let marks = drained(self.heap, &mut self.one, first, last)?;
-        let others = drained(self.heap, &mut self.other, first, last)?;
+    fn drain(&mut self, range: Blocks) -> Result<(usize, bool), AllocError> {
+        let marks = drained(self.heap, &mut self.one, range)?;
+        let others = drained(self.heap, &mut self.other, range)?;
         let same = self
             .candidates
             .iter()
@@ -194,17 +198,17 @@ impl<P: Post, Q: Post> Pair<P, Q> {
 
     // Takes a mark from one and the same mark from the other, which may pick another by itself: all
     // marks of its block are taken there, and the rest sent again.
-    fn take(&mut self, first: u16, last: u16) -> Result<bool, AllocError> {
-        let Some(taken) = self.one.take(first, last) else {
-            return Ok(self.other.take(first, last).is_none());
+    fn take(&mut self, range: Blocks) -> Result<bool, AllocError> {
+        let Some(taken) = self.one.take(range) else {
+            return Ok(self.other.take(range).is_none());
         };
-        let marks = drained(self.heap, &mut self.other, taken.block, taken.block)?;
+        let marks = drained(self.heap, &mut self.other, blocks(taken.block, taken.block))?;
         for mark in &self.candidates {
             if mark.block == taken.block && *mark != taken && marks.has(*mark) {
                 let _ = self.other.send(*mark);
             }
         }
-        Ok(marks.has(taken) && (first..=last).contains(&taken.block))
+        Ok(marks.has(taken) && (range.first..=range.last).contains(&taken.block))
     }
 }
 
@@ -216,15 +220,17 @@ fn alike<P: Post, Q: Post>(rt: &HostRuntime, pair: &mut Pair<P, Q>) -> io::Resul
     let mut differ = 0u32;
     for _ in 0..CALLS {
         let call = numbers.below(16);
-        let first = numbers.below(BLOCKS + 2) as u16;
-        let last = numbers.below(BLOCKS + 4) as u16;
+        let range = Blocks {
+            first: numbers.below(BLOCKS + 2) as u16,
+            last: numbers.below(BLOCKS + 4) as u16,
+        };
         let same = match call {
             0 => {
-                let (count, same) = pair.drain(first, last)?;
+                let (count, same) = pair.drain(range)?;
                 handed = handed.saturating_add(count);
                 same
             }
-            1..=3 => pair.take(first, last)?,
+            1..=3 => pair.take(range)?,
             _ => {
                 let mark = numbers.candidate();
                 let answer = pair.one.send(mark);

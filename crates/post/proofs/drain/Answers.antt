@@ -15,8 +15,8 @@ loop-mark-preserved g c =
     let t = c.in-Some.ensures in
     let k = c.in-Some.mark in
     let inv = c.loop-mark.invariant in
-    let first = c.args.first in
-    let last = c.args.last in
+    let first = c.args.range.first in
+    let last = c.args.range.last in
     let w = g.P.Post.waits c.loop-mark.post in
     let r = g.R.Receiver in (
       t.size ∙ inv.0,
@@ -29,8 +29,8 @@ pub returns : goal.returns
 returns g c =
     let t = c.in_default.ensures in
     let inv = c.loop-mark.invariant in
-    let first = c.args.first in
-    let last = c.args.last in
+    let first = c.args.range.first in
+    let last = c.args.range.last in
     let p = g.P.Post in
     let r = g.R.Receiver in
     let w = p.waits c.loop-mark.post in
