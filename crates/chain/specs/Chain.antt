@@ -4,6 +4,13 @@ use Rattle.chain.specs.declared.Spot.{Spot}
 
 -- Records
 
+-- what is owed of a type of record: a link that is set is read, only the last one set counts, and to set the link that a
+-- record has changes nothing; so nothing but the link changes
+pub record LinkLaws (R : Type 0) (link : R → ℕ) (relinked : R → ℕ → R) : Type 0 where
+  pub relinked_link : (x : R) (n : ℕ) → link (relinked x n) ≡ n
+  pub relinked_again : (x : R) (n m : ℕ) → relinked (relinked x n) m ≡ relinked x m
+  pub relinked_same : (x : R) → relinked x (link x) ≡ x
+
 -- record i stands at this place of the table
 abbrev pub place : ℕ → ℕ
 place i = i - 1

@@ -6,7 +6,7 @@
 
 ghost use Rattle.std.specs.Prelude.{◌≡◌, ℕ, ◌<◌, true, false, map, length, IfSome, Some, None, MatchOption};
 ghost use Rattle.std.specs.Iterator.{YieldsFirstBy, item_count};
-ghost use Rattle.chain.specs.Chain.{place, numbered, link_of, put_table, put_head, PutsFirst, first_in, rest_of, TakesFirst, Taken, visits, VisitsChain, before, spot_of, Inside, out_table, out_head, is_there, TakesOut};
+ghost use Rattle.chain.specs.Chain.{LinkLaws, place, numbered, link_of, put_table, put_head, PutsFirst, first_in, rest_of, TakesFirst, Taken, visits, VisitsChain, before, spot_of, Inside, out_table, out_head, is_there, TakesOut};
 ghost use Rattle.std.proofs.Common.{rules};
 
 /// A record with a link: the number of the next record, or 0.
@@ -22,12 +22,8 @@ pub trait Linked {
     fn set_next(&mut self, next: u16)
         ensures { self.new ≡ relinked self.old next };
 
-    ghost relinked_link: { (x : Self) (n : ℕ) → link (relinked x n) ≡ n };
-
-    // the next two say that nothing but the link changes
-    ghost relinked_again: { (x : Self) (n m : ℕ) → relinked (relinked x n) m ≡ relinked x m };
-
-    ghost relinked_same: { (x : Self) → relinked x (link x) ≡ x };
+    // nothing but the link changes
+    ghost laws: { LinkLaws Self link relinked };
 }
 
 // Where record `i` stands in a table of `len` records.
@@ -193,13 +189,9 @@ mod tests {
     impl Linked for Slot {
         ghost link = { λ s. s.next };
 
-        ghost relinked = { λ s n. record { size = s.size; next = n } };
+        ghost relinked = { λ s n. record s { next = n } };
 
-        ghost relinked_link = { Prim.search rules };
-
-        ghost relinked_again = { Prim.search rules };
-
-        ghost relinked_same = { Prim.search rules };
+        ghost laws = { Prim.search rules };
 
         fn next(&self) -> u16 {
             self.next

@@ -40,13 +40,9 @@ impl Area {
 impl Linked for Area {
     ghost link = { λ a. a.next };
 
-    ghost relinked = { λ a n. record { level = a.level; child = a.child; next = n; slots = a.slots } };
+    ghost relinked = { λ a n. record a { next = n } };
 
-    ghost relinked_link = { Prim.search rules };
-
-    ghost relinked_again = { Prim.search rules };
-
-    ghost relinked_same = { Prim.search rules };
+    ghost laws = { Prim.search rules };
 
     fn next(&self) -> u16 {
         self.next

@@ -34,13 +34,9 @@ impl Letter {
 impl Linked for Letter {
     ghost link = { λ x. x.next };
 
-    ghost relinked = { λ x n. record { entry = x.entry; level = x.level; next = n } };
+    ghost relinked = { λ x n. record x { next = n } };
 
-    ghost relinked_link = { Prim.search rules };
-
-    ghost relinked_again = { Prim.search rules };
-
-    ghost relinked_same = { Prim.search rules };
+    ghost laws = { Prim.search rules };
 
     fn next(&self) -> u16 {
         self.next

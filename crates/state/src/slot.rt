@@ -17,11 +17,7 @@ impl Linked for Slot {
 
     ghost relinked = { λ s n. record s { next = n } };
 
-    ghost relinked_link = { Prim.search rules };
-
-    ghost relinked_again = { Prim.search rules };
-
-    ghost relinked_same = { Prim.search rules };
+    ghost laws = { Prim.search rules };
 
     fn next(&self) -> u16 {
         self.next

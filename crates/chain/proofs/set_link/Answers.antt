@@ -14,7 +14,7 @@ returns-in_default g c =
       answer = sym f;
       table = table;
       links = rw length-map (sym f);
-      chain = puts_first g.R.Linked.link g.R.Linked.relinked g.met.R.Linked.relinked_link xs xs c.args.next c.args.i table;
+      chain = puts_first g.R.Linked.link g.R.Linked.relinked g.met.R.Linked.laws.relinked_link xs xs c.args.next c.args.i table;
     }
 
 pub returns : goal.returns
@@ -29,5 +29,5 @@ returns g c =
       answer = sym f.0;
       table = table;
       links = rw length-map (sym f.0);
-      chain = puts_first g.R.Linked.link g.R.Linked.relinked g.met.R.Linked.relinked_link xs ys c.args.next c.args.i table;
+      chain = puts_first g.R.Linked.link g.R.Linked.relinked g.met.R.Linked.laws.relinked_link xs ys c.args.next c.args.i table;
     }
