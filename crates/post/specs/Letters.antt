@@ -58,10 +58,6 @@ abbrev pub every : (ℕ → Bool) → List ℕ → Bool
 every f [] = true
 every f (j ∷ js) = f j && every f js
 
-abbrev pub some : (ℕ → Bool) → List ℕ → Bool
-some f [] = false
-some f (j ∷ js) = cond (f j) true (some f js)
-
 -- the letters of block b are in order
 unfoldable pub tidy : List ℕ → List Letter → ℕ → Bool
 tidy heads letters b =

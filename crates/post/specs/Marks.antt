@@ -68,11 +68,6 @@ send_answer n k = cond (mark_in n k) (Ok tt) (Err NoMark)
 abbrev pub Quiet : ℕ → ℕ → Waits → Type 0
 Quiet first last w = (b m l : ℕ) → within first last b ≡ true → w b m l ≡ false
 
--- some waiting mark of the range, or none exactly if none waits there
-abbrev pub Found : ℕ → ℕ → Waits → Option Mark → Type 0
-Found first last w None = Quiet first last w
-Found first last w (Some k) = (within first last k.block ≡ true) × (holds w k ≡ true)
-
 -- a waiting mark of the block that passes a test, or none exactly if none passes; at k the test answers an r for which `passes k r`
 pub record FoundBy (passes : Mark → Bool → Type 0) (block : ℕ) (w : Waits) (found : Option Mark) : Type 0 where
   pub answer :
