@@ -10,6 +10,8 @@ ghost use Rattle.chain.specs.Chain.{LinkLaws, place, numbered, link_of, put_tabl
 ghost use Rattle.std.proofs.Common.{rules};
 
 /// A record with a link: the number of the next record, or 0.
+///
+/// Each type writes its own impl, since the gate takes none that a macro of ours wrote.
 pub trait Linked {
     ghost link: { Self → ℕ };
 

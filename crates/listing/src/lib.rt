@@ -25,7 +25,7 @@ pub enum Refusal {
 }
 
 impl Refusal {
-    /// The number by which the refusal is reported.
+    /// The number by which the refusal is reported; the product prescribes it.
     pub fn number(self) -> u8
         ensures { result ≡ refusal_number self }
     {

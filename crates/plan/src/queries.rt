@@ -115,6 +115,7 @@ impl Plan {
         }
         let mut over_x = x;
         let mut over_y = y;
+        // no chain is plainer: the level is the answer, and both climbs go on with it
         for level in 1..self.top_level() {
             if over_x == over_y {
                 return Some(level);

@@ -24,7 +24,7 @@ pub enum Refusal {
 }
 
 impl Refusal {
-    // The refusal's number; want of memory has none.
+    // The refusal's number, which the product prescribes; want of memory has none.
     pub fn number(self) -> Option<u8>
         ensures { result ≡ refusal_number self }
     {

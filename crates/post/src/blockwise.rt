@@ -4,7 +4,8 @@ ghost use Rattle.post.specs.Marks.{is_mark, mark_in, added, sent, send_answer, T
 
 use crate::{Blocks, Mark, Refusal};
 
-// What a post needs of the store that it keeps its marks in.
+// What a post needs of the store that it keeps its marks in. A block is a number here, as in a mark: a type for the numbers
+// 1 to the size would be no plainer, since each mark and each range would have to be taken apart into it.
 pub(crate) trait Blockwise {
     ghost size: { Self → ℕ };
 
@@ -52,6 +53,7 @@ pub(crate) trait Blockwise {
         ensures size { size self.new ≡ size self.old }
         ensures taken { Taken range.first range.last (kept self.old) (kept self.new) result }
     {
+        // no chain is plainer: each turn changes the store
         for block in range.among(self.blocks()) {
             if let Some(mark) = self.take_at(block as u16) {
                 return Some(mark);

@@ -56,7 +56,8 @@ fn letter_of(mark: Mark) -> u16
     6 * (mark.block - 1) + pair as u16 + 1
 }
 
-// The heads of the blocks' chains, and six letters for each block.
+// The heads of the blocks' chains, and six letters for each block. The product prescribes letters that are handed in and
+// chained by their numbers.
 #[derive(Drop)]
 pub(crate) struct Chains {
     heads: Vec<u16>,

@@ -61,7 +61,7 @@ pub enum Refusal {
 }
 
 impl Refusal {
-    // The number under which the refusal is reported.
+    // The number under which the refusal is reported; the product prescribes it.
     pub fn number(self) -> u8
         ensures { result ≡ refusal_number self }
     {

@@ -84,6 +84,7 @@ fn mark(block: u16, entry: u8, level: u8) -> Mark {
 // Every mark of the blocks below `blocks`, and what is nearly one.
 fn candidates(heap: Global, blocks: u16) -> Result<Vec<Mark>, AllocError> {
     let mut marks = Vec::new(heap);
+    // no chain is plainer: the numbers are what is made
     for block in 0..blocks {
         for entry in 0..6 {
             for level in 0..6 {
