@@ -32,11 +32,6 @@ changed_set f [] k x y l h = refl
 changed_set f (z ∷ xs) zero x y l h = ap (λ w. w ∷ xs) h
 changed_set f (z ∷ xs) (suc k) x y l h = ap (λ ws. z ∷ ws) (changed_set f xs k x y (omega arith) h)
 
-pub length_changed : {R : Type 0} (f : R → R) (xs : List R) (k : ℕ) → length (changed f xs k) ≡ length xs
-length_changed f [] k = refl
-length_changed f (x ∷ xs) zero = refl
-length_changed f (x ∷ xs) (suc k) = ap suc (length_changed f xs k)
-
 links_changed : {R : Type 0} (link : R → ℕ) (f : R → R) (n : ℕ) → ((x : R) → link (f x) ≡ n) → (xs : List R) (k : ℕ) → map link (changed f xs k) ≡ set (map link xs) k n
 links_changed link f n e [] k = refl
 links_changed link f n e (x ∷ xs) zero = ap (λ m. m ∷ map link xs) (e x)

@@ -1,17 +1,18 @@
 //! Chains of records in a lent table: each record has the number of the next.
 //!
-//! Records are numbered from 1, in the order of the table, and a link of 0 ends a chain. Many chains share one
-//! table, and whoever owns a chain keeps its head, so table and head are handed in apart, and not as one struct.
+//! Records are numbered from 1, in the order of the table, and a link of 0 ends a chain: the product prescribes both.
+//! Many chains share one table, and whoever owns a chain keeps its head, so table and head are handed in apart, and not
+//! as one struct.
 #![tactic(auto)]
 
-ghost use Rattle.std.specs.Prelude.{◌≡◌, ℕ, ◌<◌, true, false, map, length, IfSome, Some, None, MatchOption};
+ghost use Rattle.std.specs.Prelude.{◌≡◌, ℕ, ◌<◌, true, false, map, length, Some, None, MatchOption};
 ghost use Rattle.std.specs.Iterator.{YieldsFirstBy, item_count};
 ghost use Rattle.chain.specs.Chain.{LinkLaws, place, numbered, link_of, put_table, put_head, PutsFirst, first_in, rest_of, TakesFirst, Taken, visits, VisitsChain, before, spot_of, Inside, out_table, out_head, is_there, TakesOut};
 ghost use Rattle.std.proofs.Common.{rules};
 
 /// A record with a link: the number of the next record, or 0.
 ///
-/// Each type writes its own impl, since the gate takes none that a macro of ours wrote.
+/// Each type writes its own impl: the build takes none that a macro of the repository wrote.
 pub trait Linked {
     ghost link: { Self → ℕ };
 
@@ -88,7 +89,7 @@ pub fn take_first<R: Linked>(records: &[R], head: &mut u16) -> Option<u16>
     Some(first)
 }
 
-/// The records that the links visit from one on, each with its number, at most as many as the table has.
+/// The records that the links visit from a given one on, each with its number, at most as many as the table has.
 #[derive(Drop)]
 pub struct Visits<'a, R> {
     records: &'a [R],

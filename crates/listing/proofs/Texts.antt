@@ -3,7 +3,7 @@ use Rattle.std.proofs.Common.{◌≡◌, ℕ, ◌+◌, ◌<◌, ◌≤◌, List,
 use Rattle.std.proofs.lemmas.List.{flat_map_more, length-take-le, take-append-drop, take_at, take_more, drop_at, drop-drop}
 use Rattle.listing.specs.Listing.{line, listing, written}
 use Rattle.listing.specs.Writing.{Puts}
-use Rattle.listing.specs.declared.Lines.{Lines}
+use Rattle.listing.specs.declared.Writer.{Writer}
 use Rattle.listing.specs.declared.Row.{Row}
 
 -- a text and then another right after it
@@ -19,7 +19,7 @@ written_more out at s t room =
     (rw (add_assoc at (length s) (length t)))
 
 -- no text is put where nothing changes
-pub puts_nothing : (lines : Lines) → lines.at ≤ length lines.out.now → Puts lines lines []
+pub puts_nothing : (lines : Writer) → lines.at ≤ length lines.out.now → Puts lines lines []
 unfolding written
 puts_nothing lines within = record {
   after = rw add-zero (sym (take-append-drop lines.at lines.out.now));
@@ -30,7 +30,7 @@ puts_nothing lines within = record {
 }
 
 -- two texts that are put, one after the other, are their joined text put
-pub puts_then : {old mid new : Lines} {s t : List ℕ} → Puts old mid s → Puts mid new t → Puts old new (s ++ t)
+pub puts_then : {old mid new : Writer} {s t : List ℕ} → Puts old mid s → Puts mid new t → Puts old new (s ++ t)
 puts_then {old} {mid} {new} {s} {t} first second = record {
   after = second.after ∙ (λ i. written (first.after i) (first.place i) t) ∙ written_more old.out.now old.at s t (omega arith);
   place = omega (arith, length-append s t);
@@ -40,7 +40,7 @@ puts_then {old} {mid} {new} {s} {t} first second = record {
 }
 
 -- a text that is put at the front
-pub puts_front : {old new : Lines} {text : List ℕ} → old.at ≡ 0 → Puts old new text → new.out.now ≡ text ++ drop (length text) old.out.now
+pub puts_front : {old new : Writer} {text : List ℕ} → old.at ≡ 0 → Puts old new text → new.out.now ≡ text ++ drop (length text) old.out.now
 unfolding written
 puts_front {old} {new} {text} front put = put.after ∙ ap (λ at. written old.out.now at text) front ∙ rw zero-add
 

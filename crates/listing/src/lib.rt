@@ -9,7 +9,7 @@ ghost use Rattle.listing.specs.Writing.{HasRoom, Puts};
 use itoa::{Buffer, Integer};
 
 /// One area of the memory: its number, its level, and how many of its slots are used and free.
-#[derive(Clone, Copy)]
+#[derive(Clone, Copy, PartialEq, Eq, Debug)]
 pub struct Row {
     pub area: u16,
     pub level: u8,
@@ -68,13 +68,16 @@ fn listing_length(rows: &[Row]) -> Option<usize>
 }
 
 /// The memory that the caller lends, and the place in it where the next text goes.
+///
+/// The product prescribes fixed words between the numbers of a line. The library's cursor is not used, since nothing is
+/// said of the bytes that `write!` leaves in it.
 #[derive(Drop)]
-struct Lines<'a> {
+struct Writer<'a> {
     out: &'a mut [u8],
     at: usize,
 }
 
-impl Lines<'_> {
+impl Writer<'_> {
     /// Writes `text`.
     #[tactic(auto, using(std::proofs::lemmas::Slice::overwrites), unfolding(crate::specs::Listing::written))]
     fn put(&mut self, text: &[u8])
@@ -87,7 +90,7 @@ impl Lines<'_> {
     }
 
     /// Writes the digits of `n`.
-    fn number<I: Integer>(&mut self, n: I)
+    fn put_number<I: Integer>(&mut self, n: I)
         requires { HasRoom self.old (I.text n) }
         ensures { Puts self.old self.new (I.text n) }
     {
@@ -95,34 +98,34 @@ impl Lines<'_> {
     }
 
     /// Writes `word` and then the number `n`.
-    fn field<I: Integer>(&mut self, word: &[u8], n: I)
+    fn put_field<I: Integer>(&mut self, word: &[u8], n: I)
         requires { HasRoom self.old (word.now ++ I.text n) }
         ensures { Puts self.old self.new (word.now ++ I.text n) }
     {
         self.put(word);
-        self.number(n);
+        self.put_number(n);
     }
 
     /// Writes the line of `row`.
     #[tactic(auto, using(crate::proofs::Texts::line_bytes))]
-    fn line(&mut self, row: &Row)
+    fn put_line(&mut self, row: &Row)
         requires { HasRoom self.old (line row.now) }
         ensures { Puts self.old self.new (line row.now) }
     {
-        self.field(b"area ", row.area);
-        self.field(b" level ", row.level);
-        self.field(b" used ", row.used);
-        self.field(b" free ", row.free);
+        self.put_field(b"area ", row.area);
+        self.put_field(b" level ", row.level);
+        self.put_field(b" used ", row.used);
+        self.put_field(b" free ", row.free);
         self.put(b"\n");
     }
 
     /// Writes the lines of `rows`.
-    fn listing(&mut self, rows: &[Row])
+    fn put_lines(&mut self, rows: &[Row])
         requires { HasRoom self.old (listing rows.now) }
         ensures { Puts self.old self.new (listing rows.now) }
     {
         for row in rows {
-            self.line(row);
+            self.put_line(row);
         }
     }
 }
@@ -138,7 +141,7 @@ pub fn write_listing(rows: &[Row], out: &mut [u8]) -> Result<usize, Refusal>
     let size = listing_length(rows)
         .filter(|size| *size <= out.len())
         .ok_or(Refusal::Short)?;
-    Lines { out, at: 0 }.listing(rows);
+    Writer { out, at: 0 }.put_lines(rows);
     Ok(size)
 }
 

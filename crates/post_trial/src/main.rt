@@ -84,7 +84,7 @@ fn mark(block: u16, entry: u8, level: u8) -> Mark {
 // Every mark of the blocks below `blocks`, and what is nearly one.
 fn candidates(heap: Global, blocks: u16) -> Result<Vec<Mark>, AllocError> {
     let mut marks = Vec::new(heap);
-    // no chain is plainer: the numbers are what is made
+    // tried as nested `flat_map`s: that the collecting ends was not proved
     for block in 0..blocks {
         for entry in 0..6 {
             for level in 0..6 {
@@ -156,11 +156,12 @@ fn edges<P: Post>(rt: &HostRuntime, post: &mut P) -> io::Result<()> {
 fn fill<P: Post>(rt: &HostRuntime, post: &mut P) -> io::Result<()> {
     let heap = rt.alloc();
     let marks = candidates(heap, post.size().saturating_add(2))?;
-    let sent = marks
-        .iter()
-        .chain(marks.iter())
-        .filter(|mark| post.send(**mark).is_ok())
-        .count();
+    let mut sent = 0u32;
+    for mark in marks.iter().chain(marks.iter()) {
+        if post.send(*mark).is_ok() {
+            sent = sent.saturating_add(1);
+        }
+    }
     let size = post.size();
     let handed = count(&drained(heap, post, ALL)?, &candidates(heap, 1026)?);
     let left = post.take(ALL).is_some();
@@ -186,7 +187,7 @@ impl<P: Post, Q: Post> Pair<P, Q> {
         })
     }
 
-    // Drains both: how many marks come out of one, and whether they come out of the other.
+    // Drains both: how many marks come out of one, and whether they come out of the other. Both are reported.
     fn drain(&mut self, range: Blocks) -> Result<(usize, bool), AllocError> {
         let marks = drained(self.heap, &mut self.one, range)?;
         let others = drained(self.heap, &mut self.other, range)?;

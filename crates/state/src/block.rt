@@ -23,7 +23,7 @@ pub struct Entry {
 /// A block of up to eight words. It has at most one inward entry for each level from 2 on, and so many holds.
 #[derive(Clone, Copy, PartialEq, Eq, Debug)]
 pub struct Block {
-    // words lie in the slot, which is lent and of a fixed size: there are always eight, and the first `size` are the block's
+    // the product prescribes blocks of at most eight words, in slots of a fixed size: the first `size` words are the block's
     pub size: u8,
     pub words: [Word; 8],
     pub colour: Colour,

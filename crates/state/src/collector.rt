@@ -34,6 +34,7 @@ pub struct AtLevel {
 pub struct Collector {
     pub stage: Stage,
     pub levels: [AtLevel; 3],
+    // a link, so a number, with 0 for none
     pub free: u16,
 }
 

@@ -64,8 +64,8 @@ impl Message {
         }
     }
 
-    /// The message that eight bytes are: sender, letter, p, q and a four-byte number, its low byte first. Named for what it
-    /// does; a `TryFrom` beside it would say the same twice.
+    /// The message that eight bytes are: sender, letter, p, q and a four-byte number, its low byte first.
+    // callers have it by this name; a `TryFrom` would only be a second one
     pub fn decode(bytes: &[u8]) -> Result<Message, Refusal>
         ensures { result ≡ decoded bytes.now }
     {

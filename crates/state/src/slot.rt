@@ -8,7 +8,7 @@ use chain::Linked;
 #[derive(Clone, Copy, PartialEq, Eq, Debug)]
 pub struct Slot {
     pub block: Option<Block>,
-    // slots lie in a table that is lent, so a link is a number
+    // a number, with 0 for none, as the product prescribes links
     pub next: u16,
 }
 

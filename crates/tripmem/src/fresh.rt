@@ -40,6 +40,7 @@ pub fn fresh_listing(heap: Global, plan: &Plan) -> anyhow::Result<Vec<u8>>
     ensures { IfOk result (λ v. v.items ≡ listing (fresh_rows plan.now)) }
 {
     let rows = fresh_rows(heap, plan)?;
+    // the product prescribes that a listing is written into memory that is lent
     let mut text = vec![in heap; 0u8; LINE * 64]?;
     let length = write_listing(&rows, &mut text).map_err(|_| anyhow!(
         "\"the listing is longer than its memory\""

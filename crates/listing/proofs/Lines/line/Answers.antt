@@ -1,7 +1,0 @@
-use Rattle.listing.specs.Listing.{line}
-use Rattle.listing.proofs.Texts.{puts_then}
-use Rattle.listing.proofs.Lines.line.Goals as goal
-
-pub returns : goal.returns
-unfolding line
-returns c = puts_then c.field.ensures (puts_then c.field-2.ensures (puts_then c.field-3.ensures (puts_then c.field-4.ensures c.put.ensures)))
