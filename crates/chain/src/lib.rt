@@ -5,10 +5,12 @@
 //! as one struct.
 #![tactic(auto)]
 
-ghost use Rattle.std.specs.Prelude.{◌≡◌, ℕ, ◌<◌, true, false, map, length, Some, None, MatchOption};
+ghost use Rattle.std.specs.Prelude.{◌≡◌, ℕ, List, ◌<◌, true, false, map, length, Some, None, MatchOption};
 ghost use Rattle.std.specs.Iterator.{YieldsFirstBy, item_count};
 ghost use Rattle.chain.specs.Chain.{LinkLaws, place, numbered, link_of, put_table, put_head, PutsFirst, first_in, rest_of, TakesFirst, Taken, visits, VisitsChain, before, spot_of, Inside, out_table, out_head, is_there, TakesOut};
 ghost use Rattle.std.proofs.Common.{rules};
+
+use std::marker::Model;
 
 /// A record with a link: the number of the next record, or 0.
 ///
@@ -91,18 +93,24 @@ pub fn take_first<R: Linked>(records: &[R], head: &mut u16) -> Option<u16>
 
 /// The records that the links visit from a given one on, each with its number, at most as many as the table has.
 #[derive(Drop)]
-pub struct Visits<'a, R> {
+pub struct Visits<'a, R: Linked> {
     records: &'a [R],
     at: u16,
     left: usize,
 }
 
+impl<'a, R: Linked> Model for Visits<'a, R> {
+    ghost Value = { List (ℕ × R) };
+
+    ghost view = { λ s. visits R.link s.records.now s.left s.at };
+}
+
 impl<'a, R: Linked> Iterator for Visits<'a, R> {
     type Item = (u16, &'a R);
 
-    ghost next_gives = { YieldsFirstBy (λ v. (v.0, v.1.now)) (λ s. visits R.Linked.link s.records.now s.left s.at) };
+    ghost next_gives = { YieldsFirstBy (λ v. (v.0, v.1.now)) (λ s. s) };
 
-    ghost remaining = { item_count (λ s. visits R.Linked.link s.records.now s.left s.at) };
+    ghost remaining = { item_count (λ s. s) };
 
     fn next(&mut self) -> Option<(u16, &'a R)> {
         self.left = self.left.checked_sub(1)?;
@@ -115,8 +123,8 @@ impl<'a, R: Linked> Iterator for Visits<'a, R> {
 
 /// The records that the chain from `head` on visits, in its order.
 pub fn visited<R: Linked>(records: &[R], head: u16) -> Visits<'_, R>
-    ensures all { visits R.Linked.link result.records.now result.left result.at ≡ visits R.Linked.link records.now (length records.now) head }
-    ensures chain { VisitsChain R.Linked.link records.now head (visits R.Linked.link records.now (length records.now) head) }
+    ensures all { result ≡ visits R.Linked.link records.now (length records.now) head }
+    ensures chain { VisitsChain R.Linked.link records.now head result }
 {
     Visits {
         records,

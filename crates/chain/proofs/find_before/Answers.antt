@@ -12,5 +12,5 @@ returns g c =
     let xs = c.args.records.now in
     before_found (λ x. x.now) link xs c.args.head c.args.i c.find.result c.map.result (search rules)
     (find_from_yields_List (λ v. link v.1 == c.args.i) c.find.new.self _ c.find.result c.find.ensures.ran
-    (YieldsList-from_first (λ v. (v.0, v.1.now)) (λ s. visits link s.records.now s.left s.at) (visits link xs (length xs) c.args.head) c.visited.ensures.all)
+    (YieldsList-from_first (λ v. (v.0, v.1.now)) (λ s. s) (visits link xs (length xs) c.args.head) c.visited.ensures.all)
     (λ x b q k. search (rules, tests)))
