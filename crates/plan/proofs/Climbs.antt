@@ -13,7 +13,8 @@ use Rattle.plan.specs.Plans.{is_plan, top_level, slot_count, place_of, slots_of,
 use Rattle.plan.specs.Laws.{Contains, SideBySide}
 use Rattle.plan.proofs.Walks.{along_end, along_more, walk_level}
 use Rattle.plan.proofs.Places.{Met, Over, below_of, slots_cons, walk_met, home_at}
-use Rattle.plan.proofs.Found.{top_alone, top_numbered, met_numbered, place_met, place_area, place_alone, place_stands, place_level, in_range}
+use Rattle.plan.proofs.Found.{top_numbered, met_numbered, place_met, place_area, place_alone, place_stands, place_level}
+use Rattle.plan.proofs.Rules.{plan_rules}
 use Rattle.plan.proofs.Rows.{under}
 
 chain_numbered : (links : List ℕ) (head i : ℕ) (is : List ℕ) → Chain links head is → among i is ≡ true → numbered (length links) i ≡ true
@@ -109,7 +110,7 @@ module _ (areas : List Area) (plan : is_plan areas ≡ true) where
 
   -- the top area
   pub top_high : 2 ≤ top_level areas
-  top_high = (in_range areas plan 1 (top_numbered areas plan)).0
+  top_high = (plan_rules areas plan).high
 
   abbrev top_place : Place
   top_place = record { area = 1; level = top_level areas; parent = 0; before = 0; after = 0 + (area_at areas 1).slots + slots_in areas (walk_from areas (top_level areas - 1) 1 (area_at areas 1).child (0 + (area_at areas 1).slots)) }
@@ -118,7 +119,7 @@ module _ (areas : List Area) (plan : is_plan areas ≡ true) where
   top_first =
       let below = walk_from areas (top_level areas - 1) in
       let inner = below 1 (area_at areas 1).child (0 + (area_at areas 1).slots) in
-      let ended : numbered (length areas) (area_at areas 1).next ≡ false = ap (numbered (length areas)) (top_alone areas plan) in
+      let ended : numbered (length areas) (area_at areas 1).next ≡ false = ap (numbered (length areas)) (plan_rules areas plan).alone in
       walk_level areas (top_level areas) 0 1 0 (λ z. omega (arith, top_high))
       ∙ along_more areas below (top_level areas) 0 (length areas + 1) (length areas) 1 0 refl (top_numbered areas plan)
       ∙ ap (λ ws. (top_place ∷ inner) ++ ws) (along_end areas below (top_level areas) 0 (length areas) (area_at areas 1).next (0 + (area_at areas 1).slots + slots_in areas inner) ended)

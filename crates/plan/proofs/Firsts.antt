@@ -7,22 +7,17 @@ use Rattle.std.proofs.lemmas.List.FromFn.{map-range_with_len_more}
 use Rattle.std.proofs.lemmas.Bool.{and_parts, cond-true}
 use Rattle.plan.specs.Reading.{first_wrong}
 use Rattle.plan.specs.Tree.{every}
-use Rattle.plan.proofs.Tests.{every_count_more, every_count_stop}
 
 module _ (ok : ℕ → Bool) where
-  pub wrong_none : (i k : ℕ) → k ≡ 0 → first_wrong ok i k ≡ None
+  wrong_none : (i k : ℕ) → k ≡ 0 → first_wrong ok i k ≡ None
   wrong_none i k e = rw e
 
-  pub wrong_here : (i k : ℕ) → 0 < k → ok i ≡ false → first_wrong ok i k ≡ Some i
+  wrong_here : (i k : ℕ) → 0 < k → ok i ≡ false → first_wrong ok i k ≡ Some i
   wrong_here i zero l e = absurd (omega arith)
   wrong_here i (suc k) l e = rw e
 
-  pub wrong_more : (i j k m : ℕ) → j ≡ i + 1 → k ≡ m + 1 → ok i ≡ true → first_wrong ok i k ≡ first_wrong ok j m
+  wrong_more : (i j k m : ℕ) → j ≡ i + 1 → k ≡ m + 1 → ok i ≡ true → first_wrong ok i k ≡ first_wrong ok j m
   wrong_more i j k m ji km e = rw (km, add-one, e, ji)
-
--- a list made by pushing a value for each number
-pub count_push : {X : Type 0} (f : ℕ → X) (xs ys : List X) (x : X) (i : ℕ) → ys ≡ xs ++ (x ∷ []) → xs ≡ map f (range_with_len 1 i) → x ≡ f (i + 1) → ys ≡ map f (range_with_len 1 (i + 1))
-count_push f xs ys x i p q e = p ∙ ap (λ l. l ++ (x ∷ [])) q ∙ ap (λ y. map f (range_with_len 1 i) ++ (y ∷ [])) e ∙ sym (map-range_with_len_more f 1 i (i + 1) (omega arith))
 
 -- where none is wrong, each passes
 pub every_from_none : (ok : ℕ → Bool) (i k : ℕ) → first_wrong ok i k ≡ None → every ok (range_with_len i k) ≡ true
@@ -35,10 +30,17 @@ pub none_from_every : (ok : ℕ → Bool) (i k : ℕ) → every ok (range_with_l
 none_from_every ok i zero e = refl
 none_from_every ok i (suc k) e = let p = and_parts (ok i) _ e in cond-true _ _ _ p.0 ∙ none_from_every ok (i + 1) k p.1
 
+-- where one is wrong, not each passes
+pub every_from_some : (ok : ℕ → Bool) (i k w : ℕ) → first_wrong ok i k ≡ Some w → every ok (range_with_len i k) ≡ false
+every_from_some ok i zero w e = absurd (grind (arith, e))
+every_from_some ok i (suc k) w e =
+    elim (ok i) as (λ b. cond b (first_wrong ok (i + 1) k) (Some i) ≡ Some w → (b && every ok (range_with_len (i + 1) k)) ≡ false)
+    [ true ↦ λ h. every_from_some ok (i + 1) k w h | false ↦ λ h. refl ] e
+
 -- the numbers from 1 on are tried in their order: those below `number` passed, and each has its value in xs
 pub record Tried {X : Type 0} (ok : ℕ → Bool) (f : ℕ → X) (count number : ℕ) (xs : List X) : Type 0 where
   pub within : number ≤ count + 1
-  passed : every ok (range_with_len 1 count) ≡ every ok (range_with_len number (count + 1 - number))
+  passed : first_wrong ok 1 count ≡ first_wrong ok number (count + 1 - number)
   made : xs ≡ map f (range_with_len 1 (number - 1))
 
 module _ {X : Type 0} (ok : ℕ → Bool) (f : ℕ → X) (count : ℕ) where
@@ -48,22 +50,20 @@ module _ {X : Type 0} (ok : ℕ → Bool) (f : ℕ → X) (count : ℕ) where
   module _ (number : ℕ) (xs : List X) (t : Tried ok f count number xs) where
     pub tried_more : (ys : List X) (x : X) → 1 ≤ number → number ≤ count → ok number ≡ true → ys ≡ xs ++ (x ∷ []) → x ≡ f number → Tried ok f count (number + 1) ys
     tried_more ys x low high e p q =
-        let back : number - 1 + 1 ≡ number = omega (arith, low) in
         let here : number + 1 - 1 ≡ number - 1 + 1 = omega (arith, low) in
         record {
           within = omega arith;
-          passed = t.passed ∙ every_count_more ok number _ _ (omega (arith, high)) e;
-          made = count_push f xs ys x (number - 1) p t.made (q ∙ ap f (sym back)) ∙ ap (λ k. map f (range_with_len 1 k)) (sym here);
+          passed = t.passed ∙ wrong_more ok number (number + 1) _ _ refl (omega (arith, high)) e;
+          made = p ∙ ap (λ l. l ++ (x ∷ [])) t.made ∙ ap (λ y. map f (range_with_len 1 (number - 1)) ++ (y ∷ [])) q ∙ sym (map-range_with_len_more f 1 (number - 1) number (omega (arith, low))) ∙ ap (λ k. map f (range_with_len 1 k)) (sym here);
         }
 
-    pub tried_wrong : number ≤ count → ok number ≡ false → every ok (range_with_len 1 count) ≡ false
-    tried_wrong high e = t.passed ∙ every_count_stop ok number _ (omega (arith, high)) e
+    pub tried_wrong : number ≤ count → ok number ≡ false → first_wrong ok 1 count ≡ Some number
+    tried_wrong high e = t.passed ∙ wrong_here ok number _ (omega (arith, high)) e
 
-  pub tried_all : (xs : List X) (number : ℕ) → number ≡ count + 1 → Tried ok f count number xs → (every ok (range_with_len 1 count) ≡ true) × (xs ≡ map f (range_with_len 1 count))
+  pub tried_all : (xs : List X) (number : ℕ) → number ≡ count + 1 → Tried ok f count number xs → (first_wrong ok 1 count ≡ None) × (xs ≡ map f (range_with_len 1 count))
   tried_all xs number e t =
-      let none : count + 1 - number ≡ 0 = omega (arith, e) in
       let all : number - 1 ≡ count = omega (arith, e) in
-      (t.passed ∙ ap (λ k. every ok (range_with_len number k)) none, t.made ∙ ap (λ k. map f (range_with_len 1 k)) all)
+      (t.passed ∙ wrong_none ok number _ (omega (arith, e)), t.made ∙ ap (λ k. map f (range_with_len 1 k)) all)
 
 -- the first number whose element fails a test is one more than the element's index
 pub wrong_position : {X : Type 0} (ok : X → Bool) (xs : List X) (d : X) (n k : ℕ) → k + n ≡ length xs → first_wrong (λ i. ok (get_or xs (i - 1) d)) (k + 1) n ≡ option_map (λ j. j + 1) (position_from (λ x. not (ok x)) k (drop k xs))

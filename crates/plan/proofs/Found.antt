@@ -1,19 +1,19 @@
 -- The one place of each area of a plan, and what the rules of a plan tell of its record.
 use Rattle.std.proofs.Common.{◌≡◌, ℕ, ◌<◌, ◌≤◌, Bool, true, false, cond, eqb, List, [], ◌∷◌, ◌++◌, length, is_some, Some, None, Option, unwrap_or, sym, refl, ap, ◌∙◌, subst, arith}
-use Rattle.std.specs.List.{range_with_len, ContainsAt as Has, AllByRecursion}
+use Rattle.std.specs.List.{ContainsAt as Has, AllByRecursion}
 use Rattle.std.proofs.ByRecursion.{All-weaker, all-has, has_get_or, has_append_right}
-use Rattle.std.proofs.lemmas.Bool.{cond_both, cond-true, cond-false, and_parts, and_from, false≢true, eqb-true, eqb-false, eq-eqb, ne_eqb, leb-true}
+use Rattle.std.proofs.lemmas.Bool.{cond_both, cond-true, cond-false, and_parts, and_from, false≢true, eqb-true, eqb-false, eq-eqb, ne_eqb}
 use Rattle.chain.specs.Chain.{numbered}
 use Rattle.plan.specs.declared.area.Area.{Area}
 use Rattle.plan.specs.declared.area.Place.{Place}
 use Rattle.plan.specs.Walk.{area_at, walk_of}
-use Rattle.plan.specs.Tree.{every, fits, unmet, only_place, is_tree, well_placed}
-use Rattle.plan.specs.Reading.{area_in_range, slots_right}
+use Rattle.plan.specs.Tree.{every, fits, unmet, only_place}
 use Rattle.plan.specs.Plans.{is_plan, top_level, place_of}
 use Rattle.plan.proofs.Conds.{some_from_lem}
-use Rattle.plan.proofs.Tests.{all_from_test, each_number}
+use Rattle.plan.proofs.Tests.{all_from_test}
 use Rattle.plan.proofs.Walks.{walk_numbered}
 use Rattle.plan.proofs.Places.{Met, walk_met}
+use Rattle.plan.proofs.Rules.{Rules, met_once, plan_rules}
 
 some_value : {X : Type 0} (o : Option X) (d : X) → is_some o ≡ true → o ≡ Some (unwrap_or o d)
 some_value (Some x) d e = refl
@@ -61,37 +61,13 @@ unmet_behind pre p post i a = go pre
         (λ _ k. go pre k) h
 
 module _ (areas : List Area) (plan : is_plan areas ≡ true) where
-  rules : (numbered 64 (length areas) ≡ true) × (every (λ i. area_in_range (length areas) i (area_at areas i)) (range_with_len 1 (length areas)) ≡ true) × (is_tree areas ≡ true) × (every (λ i. slots_right (area_at areas i)) (range_with_len 1 (length areas)) ≡ true)
-  unfolding is_plan
-  rules =
-      let p = and_parts _ _ plan in
-      let q = and_parts _ _ p.1 in
-      let r = and_parts _ _ q.1 in
-      (p.0, q.0, r.0, (and_parts _ _ r.1).0)
-
-  placed : (well_placed areas ≡ true) × (every (λ i. is_some (only_place (walk_of areas) i)) (range_with_len 1 (length areas)) ≡ true)
-  unfolding is_tree
-  placed = and_parts _ _ rules.2
-
-  well_placed_lem : ((area_at areas 1).next ≡ 0) × (length (walk_of areas) ≤ length areas) × AllByRecursion (λ p. fits areas p ≡ true) (walk_of areas)
-  well_placed_lem =
-      let p = and_parts _ _ placed.0 in
-      let q = and_parts _ _ p.1 in
-      (eqb-true _ _ p.0, leb-true _ _ q.0, all_from_test (fits areas) (walk_of areas) q.1)
-
-  pub top_alone : (area_at areas 1).next ≡ 0
-  top_alone = well_placed_lem.0
-
-  pub walk_short : length (walk_of areas) ≤ length areas
-  walk_short = well_placed_lem.1
+  abbrev rules : Rules areas
+  rules = plan_rules areas plan
 
   -- where each area of the plan is met
   module _ (i : ℕ) (t : numbered (length areas) i ≡ true) where
-    pub met_once : is_some (only_place (walk_of areas) i) ≡ true
-    met_once = each_number (λ j. is_some (only_place (walk_of areas) j)) (length areas) placed.1 i t
-
     only_place_lem : only_place (walk_of areas) i ≡ Some (place_of areas i)
-    only_place_lem = some_value (only_place (walk_of areas) i) _ met_once
+    only_place_lem = some_value (only_place (walk_of areas) i) _ (met_once areas rules i t)
 
     pub place_met : Has (walk_of areas) (place_of areas i)
     place_met = (only_met (walk_of areas) i (place_of areas i) only_place_lem).0
@@ -106,26 +82,17 @@ module _ (areas : List Area) (plan : is_plan areas ≡ true) where
     place_stands = all-has (Met areas (walk_of areas) (top_level areas) 0 0) (walk_of areas) (place_of areas i) (walk_met areas (top_level areas) 0 1 0) place_met
 
     pub place_level : (place_of areas i).level ≡ (area_at areas i).level
-    place_level = sym (eqb-true _ _ (and_parts _ _ (all-has (λ p. fits areas p ≡ true) (walk_of areas) (place_of areas i) well_placed_lem.2 place_met)).0) ∙ ap (λ j. (area_at areas j).level) place_area
+    place_level = sym (eqb-true _ _ (and_parts _ _ (all-has (λ p. fits areas p ≡ true) (walk_of areas) (place_of areas i) rules.fit place_met)).0) ∙ ap (λ j. (area_at areas j).level) place_area
 
     pub level_within : (1 ≤ (area_at areas i).level) × ((area_at areas i).level ≤ top_level areas)
     level_within = let m = place_stands in (omega (arith, m.high, place_level), omega (arith, m.low, place_level))
 
-    pub in_range : (cond (eqb i 1) 2 1 ≤ (area_at areas i).level) × ((area_at areas i).child ≤ length areas) × ((area_at areas i).next ≤ length areas)
-    in_range =
-        let p = and_parts _ _ (each_number (λ j. area_in_range (length areas) j (area_at areas j)) (length areas) rules.1 i t) in
-        let q = and_parts _ _ p.1 in
-        let r = and_parts _ _ q.1 in
-        (leb-true _ _ p.0, leb-true _ _ r.0, leb-true _ _ r.1)
-
     pub region_slots : 1 < (area_at areas i).level → (area_at areas i).slots ≡ 0
-    region_slots l =
-        let right : slots_right (area_at areas i) ≡ true = each_number (λ j. slots_right (area_at areas j)) (length areas) rules.3 i t in
-        eqb-true _ _ (sym (cond-false _ _ _ (ne_eqb (area_at areas i).level 1 (omega arith))) ∙ right)
+    region_slots l = eqb-true _ _ (sym (cond-false _ _ _ (ne_eqb (area_at areas i).level 1 (omega arith))) ∙ rules.right i t)
 
   -- the area of each place that is met
   pub met_numbered : (q : Place) → Has (walk_of areas) q → numbered (length areas) q.area ≡ true
   met_numbered q = all-has (λ p. numbered (length areas) p.area ≡ true) (walk_of areas) q (walk_numbered areas _ _ _ _)
 
   pub top_numbered : numbered (length areas) 1 ≡ true
-  top_numbered = (and_parts _ _ rules.0).0
+  top_numbered = (and_parts _ _ rules.few).0

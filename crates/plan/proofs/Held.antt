@@ -7,7 +7,7 @@ use Rattle.plan.specs.declared.area.Area.{Area}
 use Rattle.plan.specs.declared.area.Node.{Node}
 use Rattle.plan.specs.Accepted.{Accepted, node_of}
 use Rattle.plan.specs.Nodes.{areas_in}
-use Rattle.plan.specs.Plans.{top_level, slot_count, place_of, homes_of, home_of}
+use Rattle.plan.specs.Plans.{is_plan, top_level, slot_count, place_of, homes_of, home_of}
 use Rattle.plan.specs.Walk.{area_at, walk_of}
 use Rattle.plan.proofs.Rules.{plan_rules}
 use Rattle.plan.proofs.Asked.{length_homes, place_read, place_within_plan}
@@ -52,6 +52,9 @@ module _ (nodes : List Node) (homes : List ℕ) (a : Accepted nodes homes) where
   top_range = let rules = plan_rules areas a.plan in (rules.high, (rules.range 1 (numbered_from (length areas) 1 (omega arith) (omega (arith, node_count, nodes_few)))).1)
 
 -- what callers see of the tables
+pub accepted_told : (nodes : List Node) (homes : List ℕ) (seen : List Area) → Accepted nodes homes → areas_in nodes ≡ seen → is_plan seen ≡ true
+accepted_told nodes homes seen a e = subst (λ xs. is_plan xs ≡ true) e a.plan
+
 pub count_told : (nodes : List Node) (homes : List ℕ) (seen : List Area) → Accepted nodes homes → areas_in nodes ≡ seen → (length nodes ≡ length seen) × (length nodes ≤ 64)
 count_told nodes homes seen a e = (node_count nodes homes a ∙ ap length e, (nodes_few nodes homes a).1)
 

@@ -1,5 +1,5 @@
 -- The parts of the reading put together.
-use Rattle.std.proofs.Common.{◌≡◌, ℕ, ◌+◌, ◌/◌, ◌<◌, ◌≤◌, Bool, true, false, cond, leb, List, map, length, get_or, is_some, IfSome, Some, None, Ok, Err, Option, Result, sym, refl, ap, ◌∙◌, subst, arith}
+use Rattle.std.proofs.Common.{◌≡◌, ℕ, ◌+◌, ◌/◌, ◌%◌, ◌<◌, ◌≤◌, ◌&&◌, Bool, true, false, cond, eqb, leb, List, map, length, get_or, is_some, IfSome, Some, None, Ok, Err, Option, Result, sym, refl, ap, ◌∙◌, subst, arith}
 use Rattle.std.specs.List.{range_with_len}
 use Rattle.std.proofs.lemmas.Bool.{and_left, and_right, and_from, and_parts, leb-true, cond-true, cond-false, le-leb, lt-leb}
 use Rattle.std.proofs.lemmas.List.FromFn.{length-map-range_with_len, get_or-map-range_with_len}
@@ -130,11 +130,6 @@ module _ (areas : List Area) (tables : List Place × List ℕ) (made : tables_of
   plan_sound few range =
       and_from _ _ few (and_from _ _ range (and_from _ _ tree_told.0 (and_from _ _ (every_from_none (λ i. slots_right (area_at areas i)) 1 (length areas) tree_told.1) tree_told.2)))
 
--- the whole reading
-pub length_refused : (bytes : List ℕ) → good_length (length bytes) ≡ false → read_plan bytes ≡ Err Length
-unfolding read_plan
-length_refused bytes e = cond-false _ _ _ e
-
 -- what is read of the row settles the rest
 pub due_refused : (bytes : List ℕ) (e : Refusal) → areas_read bytes ≡ Err e → read_plan bytes ≡ Err e
 unfolding read_plan
@@ -152,35 +147,37 @@ due_read bytes areas = settled (good_length (length bytes))
     settled true h = ap (λ r. and_then r check_tree) h
     settled false h = absurd (grind (arith, h))
 
-module _ (bytes : List ℕ) (good : good_length (length bytes) ≡ true) where
-  module _ (areas : List Area) (read : read_records bytes (length bytes / 6) ≡ Ok areas) where
-    pub read_on : read_plan bytes ≡ check_tree areas
-    unfolding read_plan
-    read_on = cond-true _ _ _ good ∙ ap (λ r. and_then r check_tree) read
+-- what the records tell of the areas that are read of them
+module _ (bytes : List ℕ) (good : good_length (length bytes) ≡ true) (areas : List Area) (read : read_records bytes (length bytes / 6) ≡ Ok areas) where
+  records_told : (first_wrong (record_in_range bytes (length bytes / 6)) 1 (length bytes / 6) ≡ None) × (areas ≡ areas_of bytes (length bytes / 6))
+  records_told = from (first_wrong (record_in_range bytes (length bytes / 6)) 1 (length bytes / 6)) read
+    where
+      from : (o : Option ℕ) → records_read bytes (length bytes / 6) o ≡ Ok areas → (o ≡ None) × (areas ≡ areas_of bytes (length bytes / 6))
+      from None h = (refl, cc)
+      from (Some i) h = absurd (grind (arith, h))
 
-    records_told : (first_wrong (record_in_range bytes (length bytes / 6)) 1 (length bytes / 6) ≡ None) × (areas ≡ areas_of bytes (length bytes / 6))
-    records_told = from (first_wrong (record_in_range bytes (length bytes / 6)) 1 (length bytes / 6)) read
-      where
-        from : (o : Option ℕ) → records_read bytes (length bytes / 6) o ≡ Ok areas → (o ≡ None) × (areas ≡ areas_of bytes (length bytes / 6))
-        from None h = (refl, cc)
-        from (Some i) h = absurd (grind (arith, h))
+  pub count_told : length areas ≡ length bytes / 6
+  count_told = ap length records_told.1 ∙ length-map-range_with_len (area_of bytes) 1 (length bytes / 6)
 
-    count_told : length areas ≡ length bytes / 6
-    count_told = ap length records_told.1 ∙ length-map-range_with_len (area_of bytes) 1 (length bytes / 6)
+  pub few_told : numbered 64 (length areas) ≡ true
+  few_told =
+      let p = and_parts (eqb (length bytes % 6) 0) (leb 6 (length bytes) && leb (length bytes) 384) good in
+      let q = and_parts (leb 6 (length bytes)) (leb (length bytes) 384) p.1 in
+      let low : 1 ≤ length bytes / 6 = omega (arith, leb-true _ _ q.0) in
+      let high : length bytes / 6 ≤ 64 = omega (arith, leb-true _ _ q.1) in
+      rw count_told (and_from _ _ (le-leb _ _ low) (le-leb _ _ high))
 
-    pub few_told : numbered 64 (length areas) ≡ true
-    few_told =
-        let p = and_parts _ _ good in
-        let q = and_parts _ _ p.1 in
-        let l = leb-true 6 (length bytes) q.0 in
-        let m = leb-true (length bytes) 384 q.1 in
-        rw count_told (and_from _ _ (le-leb 1 (length bytes / 6) (grind (arith, l))) (le-leb (length bytes / 6) 64 (grind (arith, m))))
-
-    pub range_told : every (λ i. area_in_range (length areas) i (area_at areas i)) (range_with_len 1 (length areas)) ≡ true
-    range_told =
-        number_each (λ i. area_in_range (length areas) i (area_at areas i)) (length areas) (λ i t.
-        let n = length bytes / 6 in
+  -- each area is what its record describes, and in range
+  module _ (i : ℕ) (t : numbered (length areas) i ≡ true) where
+    pub field_told : area_at areas i ≡ area_of bytes i
+    field_told =
         let q = numbered_parts (length areas) i t in
-        let here : area_at areas i ≡ area_of bytes i = ap (λ xs. area_at xs i) records_told.1 ∙ get_or-map-range_with_len (area_of bytes) 1 n (place i) i _ (omega (arith, count_told)) (omega arith) in
-        let right : record_in_range bytes n i ≡ true = each_number (record_in_range bytes n) n (every_from_none (record_in_range bytes n) 1 n records_told.0) i (subst (λ m. numbered m i ≡ true) count_told t) in
-        rw (count_told, here) (and_parts _ _ right).1)
+        ap (λ xs. area_at xs i) records_told.1 ∙ get_or-map-range_with_len (area_of bytes) 1 (length bytes / 6) (place i) i _ (omega (arith, count_told)) (omega arith)
+
+    pub right_told : record_in_range bytes (length bytes / 6) i ≡ true
+    right_told =
+        let n = length bytes / 6 in
+        each_number (record_in_range bytes n) n (every_from_none (record_in_range bytes n) 1 n records_told.0) i (subst (λ m. numbered m i ≡ true) count_told t)
+
+  pub range_told : every (λ i. area_in_range (length areas) i (area_at areas i)) (range_with_len 1 (length areas)) ≡ true
+  range_told = number_each (λ i. area_in_range (length areas) i (area_at areas i)) (length areas) (λ i t. rw (count_told, field_told i t) (and_parts _ _ (right_told i t)).1)

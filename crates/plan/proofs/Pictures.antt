@@ -1,8 +1,8 @@
 -- The records of a plan are the picture of a tree.
-use Rattle.std.proofs.Common.{◌≡◌, ℕ, zero, suc, ◌+◌, ◌<◌, ◌≤◌, true, false, leb, List, [], ◌∷◌, ◌++◌, length, sym, refl, ap, ◌∙◌, subst, ⊎_elim, arith}
+use Rattle.std.proofs.Common.{◌≡◌, ℕ, zero, suc, ◌+◌, ◌<◌, ◌≤◌, true, false, leb, List, [], ◌∷◌, ◌++◌, length, sym, ap, ◌∙◌, subst, ⊎_elim, arith}
 use Rattle.std.specs.List.{AllByRecursion}
 use Rattle.std.proofs.lemmas.List.{append-nil, length-append, map-append, length-map}
-use Rattle.std.proofs.lemmas.Bool.{cases_Bool, and_parts, leb-true, eqb-true, ne_eqb, both_ways, cond-true, cond-false}
+use Rattle.std.proofs.lemmas.Bool.{cases_Bool, and_parts, leb-true, eqb-true, ne_eqb, cond-true, cond-false}
 use Rattle.chain.specs.Chain.{numbered}
 use Rattle.chain.proofs.Chains.{numbered_from, numbered_parts}
 use Rattle.plan.specs.declared.area.Area.{Area}
@@ -17,7 +17,7 @@ use Rattle.plan.specs.Trees.Stands.{as_lowest, as_region}
 use Rattle.plan.specs.Trees.Chained.{ends, goes_on}
 use Rattle.plan.proofs.Counts.{numbers_of, sum_by_map, length_covers}
 use Rattle.plan.proofs.Rules.{Rules}
-use Rattle.plan.proofs.Walks.{along_end, along_more}
+use Rattle.plan.proofs.Walks.{along_end, along_more, unnumbered}
 
 -- some chain of trees of level l stands from i on
 abbrev SomeRow : List Area → ℕ → ℕ → List ℕ → Type 0
@@ -43,10 +43,6 @@ chained_numbered (goes_on i tree row) = stands_numbered tree
 alone_stands : {areas : List Area} {l : ℕ} {row : Row l} {i : ℕ} {numbers : List ℕ} → Chained areas l row i numbers → (area_at areas i).next ≡ 0 → SomeTree areas l i numbers
 alone_stands (ends {tree = tree} i stands end) z = (tree, stands)
 alone_stands {areas} (goes_on i stands row) z = absurd (omega (arith, z, numbered_parts (length areas) _ (chained_numbered row)))
-
-unnumbered : (n i : ℕ) → numbered n i ≡ false → i ≤ n → i ≡ 0
-unnumbered n zero f l = refl
-unnumbered n (suc i) f l = absurd (both_ways _ f (numbered_from n (suc i) (omega arith) l))
 
 all_parts : {X : Type 0} (P : X → Type 0) (xs ys : List X) → AllByRecursion P (xs ++ ys) → AllByRecursion P xs × AllByRecursion P ys
 all_parts P [] ys a = (tt, a)

@@ -3,18 +3,19 @@ use Rattle.std.proofs.Common.{◌≡◌, ℕ, zero, suc, ◌+◌, ◌-◌, ◌<�
 use Rattle.std.specs.List.{ContainsAt as Has}
 use Rattle.std.proofs.ByRecursion.{has_get_or, has_append_right}
 use Rattle.std.proofs.lemmas.List.{append_assoc, length-append, length-map, get_or-map}
-use Rattle.std.proofs.lemmas.Bool.{cond_both, and_parts, false≢true, both_ways, eqb-true, cases_Bool, cases_lt}
+use Rattle.std.proofs.lemmas.Bool.{cond_both, and_parts, false≢true, eqb-true, cases_Bool}
 use Rattle.chain.specs.Chain.{place, numbered, link_of, Chain, Absent, among}
-use Rattle.chain.proofs.Chains.{numbered_from, place_within}
+use Rattle.chain.proofs.Chains.{place_within}
 use Rattle.plan.specs.declared.area.Area.{Area}
 use Rattle.plan.specs.declared.area.Place.{Place}
 use Rattle.plan.specs.Walk.{area_at, slots_in, along, walk_from, walk_of}
 use Rattle.plan.specs.Tree.{unmet, only_place}
 use Rattle.plan.specs.Plans.{is_plan, top_level, place_of}
 use Rattle.plan.specs.Laws.{SideBySide, Under}
-use Rattle.plan.proofs.Walks.{along_end, along_more, walk_level}
+use Rattle.plan.proofs.Walks.{along_end, along_more, walk_level, unnumbered}
 use Rattle.plan.proofs.Places.{Met, below_of, slots_append, slots_cons}
-use Rattle.plan.proofs.Found.{every_parts, unmet_other, unmet_behind, walk_short, met_once, place_area, place_alone, place_stands, place_level, in_range, region_slots}
+use Rattle.plan.proofs.Found.{every_parts, unmet_other, unmet_behind, place_area, place_alone, place_stands, place_level, region_slots}
+use Rattle.plan.proofs.Rules.{met_once, plan_rules}
 
 -- The walk of a chain of areas, after b slots: the areas that it visits, and the places where the whole walk meets them.
 record Row (areas : List Area) (walk : List Place) (level parent head b : ℕ) : Type 0 where
@@ -39,7 +40,7 @@ module _ (areas : List Area) (plan : is_plan areas ≡ true) where
 
       unmet_rest : unmet rest j ≡ true
       unmet_rest =
-          let u = unmet_behind pre p ((inner ++ rest) ++ post) j refl (subst (λ ws. is_some (only_place ws j) ≡ true) splits (met_once areas plan j t)) in
+          let u = unmet_behind pre p ((inner ++ rest) ++ post) j refl (subst (λ ws. is_some (only_place ws j) ≡ true) splits (met_once areas (plan_rules areas plan) j t)) in
           (every_parts _ inner rest (every_parts _ (inner ++ rest) post u).0).1
 
       chain_more : Chain (map (λ (a : Area). a.next) areas) j (j ∷ r.children)
@@ -88,14 +89,11 @@ module _ (areas : List Area) (plan : is_plan areas ≡ true) where
         let long : length (along areas below level parent (suc k) j b) ≡ suc (length inner + length rest) = ap length more ∙ ap suc (length-append inner rest) in
         subst (λ ws. Row areas ws level parent j b) (sym more)
         (row_more level parent j b inner rest pre post t whole
-        (row k (area_at areas j).next (b + s + slots_in areas inner) (pre ++ (q ∷ inner)) post (whole ∙ simp append_assoc) (in_range areas plan j t).2 (omega arith))))
+        (row k (area_at areas j).next (b + s + slots_in areas inner) (pre ++ (q ∷ inner)) post (whole ∙ simp append_assoc) ((plan_rules areas plan).range j t).3 (omega arith))))
         (λ (f : numbered (length areas) j ≡ false).
         subst (λ ws. Row areas ws level parent j b) (sym (along_end areas below level parent (suc k) j b f))
-        (record { children = []; chain = ended f; met = λ i h. absurd (false≢true h); slots = omega arith; apart = λ i u. tt }))
+        (record { children = []; chain = unnumbered (length areas) j f l; met = λ i h. absurd (false≢true h); slots = omega arith; apart = λ i u. tt }))
         (cases_Bool (numbered (length areas) j))
-      where
-        ended : numbered (length areas) j ≡ false → j ≡ 0
-        ended f = ⊎_elim (λ (z : 0 < j). absurd (both_ways _ f (numbered_from (length areas) j z l))) (λ (z : j ≤ 0). omega arith) (cases_lt 0 j)
 
   -- the areas under an area of a higher level
   module _ (x : ℕ) (t : numbered (length areas) x ≡ true) (h : 1 < (area_at areas x).level) (m : Met areas (walk_of areas) (top_level areas) 0 0 (place_of areas x)) where
@@ -114,8 +112,8 @@ module _ (areas : List Area) (plan : is_plan areas ≡ true) where
     row_below =
         let q = place_of areas x in
         let splits : walk_of areas ≡ (m.pre ++ (q ∷ [])) ++ (walk ++ m.post) = m.splits ∙ ap (λ ws. m.pre ++ (q ∷ (ws ++ m.post))) below_is ∙ simp append_assoc in
-        row (walk_from areas (m.lower - 1)) m.lower x (length areas + 1) (area_at areas x).child q.before (m.pre ++ (q ∷ [])) m.post splits (in_range areas plan x t).1
-        (omega (arith, walk_short areas plan, simp length-append at (ap length splits)))
+        row (walk_from areas (m.lower - 1)) m.lower x (length areas + 1) (area_at areas x).child q.before (m.pre ++ (q ∷ [])) m.post splits ((plan_rules areas plan).range x t).2
+        (omega (arith, (plan_rules areas plan).short, simp length-append at (ap length splits)))
 
     under_row : Row areas walk m.lower x (area_at areas x).child (place_of areas x).before → Under areas x
     under_row r =

@@ -60,6 +60,10 @@ plan_rules areas plan =
     }
 
 module _ (areas : List Area) (rules : Rules areas) where
+  -- the walk meets each area at one place
+  pub met_once : (i : ℕ) → numbered (length areas) i ≡ true → is_some (only_place (walk_of areas) i) ≡ true
+  met_once i t = only_times (walk_of areas) i ∙ eq-eqb _ 1 (rules.once i t)
+
   pub rules_range : (i : ℕ) → numbered (length areas) i ≡ true → area_in_range (length areas) i (area_at areas i) ≡ true
   rules_range i t =
       let a = area_at areas i in
@@ -72,7 +76,7 @@ module _ (areas : List Area) (rules : Rules areas) where
   rules_tree =
       let walked = and_from _ _ (le-leb _ _ rules.short) (test_from_all (fits areas) (walk_of areas) rules.fit) in
       and_from _ _ (and_from _ _ (eq-eqb _ 0 rules.alone) walked)
-      (number_each (λ i. is_some (only_place (walk_of areas) i)) (length areas) (λ i t. only_times (walk_of areas) i ∙ eq-eqb _ 1 (rules.once i t)))
+      (number_each (λ i. is_some (only_place (walk_of areas) i)) (length areas) met_once)
 
   pub rules_read : check_tree areas ≡ Ok areas
   rules_read =

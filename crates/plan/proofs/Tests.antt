@@ -1,5 +1,5 @@
 -- A test of each element of a list, and what it tells.
-use Rattle.std.proofs.Common.{◌≡◌, ℕ, zero, suc, ◌+◌, ◌<◌, ◌≤◌, Bool, true, false, List, [], ◌∷◌, refl, subst, ⊎_elim, add-one, arith}
+use Rattle.std.proofs.Common.{◌≡◌, ℕ, zero, suc, ◌+◌, ◌<◌, ◌≤◌, Bool, true, List, [], ◌∷◌, refl, subst, ⊎_elim, arith}
 use Rattle.std.specs.List.{range_with_len, AllByRecursion}
 use Rattle.std.proofs.lemmas.Bool.{and_parts, and_from, cases_eq}
 use Rattle.chain.specs.Chain.{numbered}
@@ -17,13 +17,6 @@ module _ {X : Type 0} (ok : X → Bool) where
 
 -- a test of each of the numbers from i on
 module _ (ok : ℕ → Bool) where
-  pub every_count_more : (i k m : ℕ) → k ≡ m + 1 → ok i ≡ true → every ok (range_with_len i k) ≡ every ok (range_with_len (i + 1) m)
-  every_count_more i k m km e = rw (km, add-one, e)
-
-  pub every_count_stop : (i k : ℕ) → 0 < k → ok i ≡ false → every ok (range_with_len i k) ≡ false
-  every_count_stop i zero l e = absurd (omega arith)
-  every_count_stop i (suc k) l e = rw e
-
   pub every_from_lem : (i k : ℕ) → ((j : ℕ) → i ≤ j → j < i + k → ok j ≡ true) → every ok (range_with_len i k) ≡ true
   every_from_lem i zero h = refl
   every_from_lem i (suc k) h = and_from _ _ (h i (omega arith) (omega arith)) (every_from_lem (i + 1) k (λ j l m. h j (omega arith) (omega arith)))

@@ -1,18 +1,18 @@
 -- A plan is accepted exactly if its records are the picture of a tree.
-use Rattle.std.proofs.Common.{◌≡◌, ℕ, ◌+◌, ◌/◌, ◌%◌, ◌<◌, true, false, List, length, get_or, Some, None, Ok, Err, Option, Result, sym, refl, ap, ◌∙◌, subst, ⊎_elim, arith, ext_get_or}
-use Rattle.std.proofs.lemmas.Bool.{cases_Bool, and_parts, and_from, eqb-true, eq-eqb, le-leb, cond-true}
+use Rattle.std.proofs.Common.{◌≡◌, ℕ, ◌+◌, ◌/◌, ◌%◌, ◌<◌, true, false, List, length, get_or, None, Ok, Err, Result, sym, ap, ◌∙◌, subst, ⊎_elim, arith, ext_get_or}
+use Rattle.std.proofs.lemmas.Bool.{cases_Bool, and_parts, and_from, eqb-true, eq-eqb, le-leb, cond-true, cond-false}
 use Rattle.std.proofs.lemmas.List.FromFn.{length-map-range_with_len, get_or-map-range_with_len}
 use Rattle.chain.specs.Chain.{numbered, place}
 use Rattle.chain.proofs.Chains.{numbered_from, numbered_parts}
 use Rattle.plan.specs.declared.area.Area.{Area}
 use Rattle.plan.specs.declared.refusal.Refusal.{Refusal}
-use Rattle.plan.specs.Walk.{area_at}
+use Rattle.plan.specs.declared.refusal.Refusal.TheVariants.{Length}
 use Rattle.plan.specs.Reading.{area_of, areas_of, area_in_range, record_in_range, first_wrong, records_read, read_records, good_length, check_tree, and_then, read_plan}
 use Rattle.plan.specs.Plans.{tables_if, places_of, homes_of}
 use Rattle.plan.specs.Trees.{Written, AcceptedExactlyTrees}
-use Rattle.plan.proofs.Firsts.{every_from_none, none_from_every}
-use Rattle.plan.proofs.Tests.{each_number, number_each}
-use Rattle.plan.proofs.Parts.{length_refused, read_on, few_told, range_told, tree_read, plan_sound}
+use Rattle.plan.proofs.Firsts.{none_from_every}
+use Rattle.plan.proofs.Tests.{number_each}
+use Rattle.plan.proofs.Parts.{due_refused, due_read, count_told, few_told, field_told, right_told, range_told, tree_read, plan_sound}
 use Rattle.plan.proofs.Rules.{Rules, plan_rules, rules_range, rules_read}
 use Rattle.plan.proofs.Pictures.{rules_pictured}
 use Rattle.plan.proofs.Pictured.{pictured_rules}
@@ -23,15 +23,10 @@ tree_kept given areas h =
     let e : Ok given ≡ Ok areas = sym (tree_read given (places_of given, homes_of given) (ap (tables_if given) h)) ∙ h in
     cc
 
--- the records are the areas that were read
-records_kept : (bytes : List ℕ) (n : ℕ) (areas : List Area) (o : Option ℕ) → records_read bytes n o ≡ Ok areas → (o ≡ None) × (areas_of bytes n ≡ areas)
-records_kept bytes n areas None h = (refl, cc)
-records_kept bytes n areas (Some i) h = absurd (grind (arith, h))
-
 module _ (bytes : List ℕ) (areas : List Area) where
   good_length_lem : read_plan bytes ≡ Ok areas → good_length (length bytes) ≡ true
   good_length_lem h =
-      ⊎_elim (λ (e : good_length (length bytes) ≡ true). e) (λ (e : good_length (length bytes) ≡ false). absurd (let w = length_refused bytes e in grind (arith, h, w))) (cases_Bool (good_length (length bytes)))
+      ⊎_elim (λ (e : good_length (length bytes) ≡ true). e) (λ (e : good_length (length bytes) ≡ false). absurd (let w = due_refused bytes Length (cond-false _ _ _ e) in grind (arith, h, w))) (cases_Bool (good_length (length bytes)))
 
   -- both parts of the reading accept
   read_steps : good_length (length bytes) ≡ true → read_plan bytes ≡ Ok areas → (read_records bytes (length bytes / 6) ≡ Ok areas) × (check_tree areas ≡ Ok areas)
@@ -44,16 +39,13 @@ module _ (bytes : List ℕ) (areas : List Area) where
 
   read_written : good_length (length bytes) ≡ true → read_records bytes (length bytes / 6) ≡ Ok areas → Written bytes areas
   read_written good read =
-      let n = length bytes / 6 in
-      let told = records_kept bytes n areas _ read in
-      let count : length areas ≡ n = ap length (sym told.1) ∙ length-map-range_with_len (area_of bytes) 1 n in
-      let each = each_number (record_in_range bytes n) n (every_from_none (record_in_range bytes n) 1 n told.0) in
+      let count = count_told bytes good areas read in
       let whole : length bytes % 6 ≡ 0 = eqb-true _ 0 (and_parts _ _ good).0 in
       record {
         few = few_told bytes good areas read;
         long = omega (arith, count, whole);
-        fields = λ i t. let q = numbered_parts (length areas) i t in sym (get_or-map-range_with_len (area_of bytes) 1 n (place i) i _ (omega (arith, count)) (omega arith)) ∙ ap (λ xs. area_at xs i) told.1;
-        zeros = λ i t. eqb-true _ 0 (and_parts _ _ (each i (subst (λ m. numbered m i ≡ true) count t))).0;
+        fields = λ i t. sym (field_told bytes good areas read i t);
+        zeros = λ i t. eqb-true _ 0 (and_parts _ _ (right_told bytes good areas read i t)).0;
       }
 
   module _ (w : Written bytes areas) where
@@ -79,7 +71,7 @@ module _ (bytes : List ℕ) (areas : List Area) where
         in
         let none : first_wrong (record_in_range bytes n) 1 n ≡ None = none_from_every (record_in_range bytes n) 1 n (number_each (record_in_range bytes n) n range) in
         let read : read_records bytes (length bytes / 6) ≡ Ok areas = ap (read_records bytes) count ∙ ap (records_read bytes n) none ∙ ap (λ a. Ok a) written_areas in
-        read_on bytes good areas read ∙ rules_read areas rules
+        due_read bytes areas (cond-true _ _ _ good ∙ read) ∙ rules_read areas rules
 
 pub accepted_exactly_trees : (bytes : List ℕ) → AcceptedExactlyTrees bytes
 accepted_exactly_trees bytes = (

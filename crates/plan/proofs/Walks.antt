@@ -3,10 +3,10 @@ use Rattle.std.proofs.Common.{◌≡◌, ℕ, zero, suc, ◌+◌, ◌-◌, ◌*�
 use Rattle.std.specs.List.{AllByRecursion}
 use Rattle.std.proofs.ByRecursion.{All-append}
 use Rattle.std.proofs.lemmas.List.{append-nil, append_assoc, length-append, length_push, length-set, length-map, set_at, get_or_at, get_or-map}
-use Rattle.std.proofs.lemmas.Bool.{cases_lt, cond_both, le-leb, lt-leb}
+use Rattle.std.proofs.lemmas.Bool.{cases_lt, cond_both, both_ways, le-leb, lt-leb}
 use Rattle.std.proofs.lemmas.List.Sums.{sum_by-cons, sum_by-append}
 use Rattle.chain.specs.Chain.{place, numbered, rest_of}
-use Rattle.chain.proofs.Chains.{place_within}
+use Rattle.chain.proofs.Chains.{numbered_from, place_within}
 use Rattle.plan.specs.declared.area.Area.{Area}
 use Rattle.plan.specs.declared.area.Place.{Place}
 use Rattle.plan.specs.Walk.{area_at, slots_in, entered, along, walk_from, Walked}
@@ -119,6 +119,11 @@ module _ (areas : List Area) (goal : List Place) (before₀ : ℕ) (seen₀ left
           more = omega (arith, w.more, v.more, long₃, long_pushed);
           small = rw long₃ v.small;
         }
+
+-- a link that names no area is 0
+pub unnumbered : (n i : ℕ) → numbered n i ≡ false → i ≤ n → i ≡ 0
+unnumbered n zero f l = refl
+unnumbered n (suc i) f l = absurd (both_ways _ f (numbered_from n (suc i) (omega arith) l))
 
 -- what `take_first` leaves as the chain's head
 pub next_area : (areas : List Area) (at head : ℕ) → numbered (length areas) at ≡ true → head ≡ rest_of (map (λ (a : Area). a.next) areas) at → head ≡ (area_at areas at).next

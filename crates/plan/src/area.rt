@@ -8,7 +8,7 @@ use chain::Linked;
 
 // An area as its record gives it: its level, the first of the areas below it, the next area under the same parent, and
 // its own slots. Links are numbers, with 0 for none, since the records have this form and `chain` walks it.
-#[derive(Clone, Copy)]
+#[derive(Clone, Copy, PartialEq, Eq, Debug)]
 pub struct Area {
     pub level: u8,
     pub child: u16,
@@ -26,8 +26,8 @@ impl Area {
     }
 
     // Whether it has as many slots of its own as an area of its level may.
-    pub(crate) fn has_right_slots(&self) -> bool
-        ensures { result ≡ slots_right self.now }
+    pub(crate) fn has_right_slots(self) -> bool
+        ensures { result ≡ slots_right self }
     {
         if self.level == 1 {
             (1..=1024).contains(&self.slots)
@@ -54,8 +54,9 @@ impl Linked for Area {
 }
 
 // Where the walk meets an area: at which level and under which parent, and how many slots come before the area's own and
-// up to its last. The parent is a number too, with 0 for the top area, as the records' links are.
-#[derive(Clone, Copy)]
+// up to its last. The parent of the top area is 0, where a climb ends as a chain ends: an Option would be taken apart at
+// each step.
+#[derive(Clone, Copy, PartialEq, Eq, Debug)]
 pub struct Place {
     pub area: u16,
     pub level: u8,
@@ -65,7 +66,7 @@ pub struct Place {
 }
 
 // An area and where the walk meets it.
-#[derive(Clone, Copy)]
+#[derive(Clone, Copy, PartialEq, Eq, Debug)]
 pub(crate) struct Node {
     pub area: Area,
     pub place: Place,

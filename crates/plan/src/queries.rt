@@ -1,7 +1,8 @@
-// What is asked of an accepted plan. Numbers that name no area, no lowest area or no slot get no answer.
-ghost use Rattle.std.specs.Prelude.{◌≡◌, ◌+◌, ◌≤◌, ◌&&◌, length, IfSome, if◌then◌else◌, Some, None, nat_le, slice_index};
+// What is asked of an accepted plan. Numbers that name no area, no lowest area or no slot get no answer; each clause says
+// in full when there is one, since a word for `if numbered .. then Some .. else None` would be no plainer.
+ghost use Rattle.std.specs.Prelude.{◌≡◌, ◌+◌, ◌≤◌, ◌&&◌, length, IfSome, if◌then◌else◌, Some, None, true, nat_le};
 ghost use Rattle.chain.specs.Chain.{numbered};
-ghost use Rattle.plan.specs.Plans.{top_level, slot_count, is_lowest, slots_of, slots_held, place_of, homes_of, home_of, parent_of, area_over, common_level};
+ghost use Rattle.plan.specs.Plans.{is_plan, top_level, slot_count, is_lowest, slots_of, slots_held, home_of, parent_of, area_over, common_level};
 ghost use Rattle.plan.specs.Walk.{area_at};
 ghost use Rattle.plan.specs.Accepted.{node_of};
 
@@ -11,9 +12,10 @@ use chain::index_of;
 
 impl Plan {
     // How many areas the plan has; they are numbered from 1.
-    #[tactic(auto, using(crate::proofs::Held::count_told))]
+    #[tactic(auto, using(crate::proofs::Held::count_told, crate::proofs::Held::accepted_told))]
     pub fn area_count(&self) -> u16
-        ensures { result ≡ length self.now }
+        ensures answer { result ≡ length self.now }
+        ensures accepted { is_plan self.now ≡ true }
     {
         self.nodes.len() as u16
     }
@@ -87,7 +89,7 @@ impl Plan {
         Some(self.homes[k])
     }
 
-    // The area under whose child area i stands, or 0.
+    // The area under whose child area i stands, or 0, where a climb ends: an Option would be taken apart at each step.
     #[tactic(auto, using(crate::proofs::Asked::no_parent))]
     fn parent(&self, i: u16) -> u16
         ensures { result ≡ parent_of self.now i }
@@ -106,23 +108,14 @@ impl Plan {
     }
 
     // The lowest level at which one area contains both lowest areas.
-    #[tactic(auto, using(crate::proofs::Asked::meet_none, crate::proofs::Asked::meet_here, crate::proofs::Asked::meet_more))]
     pub fn common_level(&self, x: u16, y: u16) -> Option<u8>
         ensures { result ≡ (if is_lowest self.now x && is_lowest self.now y then Some (common_level self.now x y) else None) }
     {
         if !self.is_lowest(x) || !self.is_lowest(y) {
             return None;
         }
-        let mut over_x = x;
-        let mut over_y = y;
-        // no chain is plainer: the level is the answer, and both climbs go on with it
-        for level in 1..self.top_level() {
-            if over_x == over_y {
-                return Some(level);
-            }
-            over_x = self.parent(over_x);
-            over_y = self.parent(over_y);
-        }
-        Some(self.top_level())
+        (1..self.top_level())
+            .find(|&level| self.area_over(x, level) == self.area_over(y, level))
+            .or(Some(self.top_level()))
     }
 }

@@ -48,6 +48,7 @@ impl Refusal {
     }
 }
 
+// Want of memory comes as two types, so there are two of these.
 impl From<AllocError> for Refusal {
     ghost from_gives = { λ _ r. r ≡ NoMemory };
 

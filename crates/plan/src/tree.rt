@@ -48,7 +48,8 @@ impl<'a> Walk<'a> {
     }
 
     // Walks the chain of areas of one level from `first` on: an area, all that stands below its child, then its next.
-    // It stops as soon as it has met more areas than there are, since then it has met one twice.
+    // It stops as soon as it has met more areas than there are, since then it has met one twice. `chain::visited` does not
+    // serve: it ends after as many areas as there are, and a ring is noticed one step later.
     fn follow(&mut self, level: u8, parent: u16, first: u16) -> Result<(), AllocError>
         ensures walked { OnOk result (Walked self.old.areas.now (walk_from self.old.areas.now level parent first self.old.slots) self.old.slots (places_in self.old.met.items) [] self.new.slots (places_in self.new.met.items)) }
         ensures same { self.new.areas ≡ self.old.areas }

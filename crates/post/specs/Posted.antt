@@ -1,18 +1,20 @@
 -- The set that chained letters keep, after the chain of one block has changed.
 use Rattle.std.specs.declared.alloc.Global.{Global}
 use Rattle.std.specs.Prelude.{◌≡◌, ℕ, ◌-◌, ◌*◌, ◌<◌, ◌≤◌, Bool, true, false, not, ◌&&◌, ◌||◌, List, [], ◌∷◌, map, length, set, replicate, Some, None, Option, Vec, is_some, ◌==◌, ◌≢◌, nat_eq, slice_index, slice_index_or, slice_set, refl}
+use Rattle.std.proofs.Math.Bool.{and-true, or-true}
 use Rattle.std.proofs.Math.Path.{sym, ap}
 use Rattle.std.proofs.Common.{subst, ◌∙◌, arith}
 use Rattle.std.proofs.Math.Logic.{⊎_elim}
 use Rattle.std.proofs.lemmas.Bool.{eqb-true, eq-eqb, ne_eqb, and_parts, and_from, and_left, and_right, cases_Bool, cases_eq, cond-true, cond-false, both_ways}
 use Rattle.std.proofs.lemmas.List.{length-map, length-set, get_or-set_same, get_or-set_other, set-set, set-get_or, map-set}
+use Rattle.std.proofs.lemmas.Option.{cond_some, none-some}
 use Rattle.chain.specs.Chain.{numbered, link_of, among, Absent, Chain, head_of, tail_of, first_in, put_table, PutsFirst, TakesFirst, Taken}
 use Rattle.chain.proofs.Chains.{numbered_parts, numbered_from, place_within, place_apart, chain_set, changed_set}
 use Rattle.post.specs.Marks.{is_mark, mark_in, holds, same, added, without, none}
 use Rattle.post.specs.Letters.{letter_of, letter_for, links_of, entry_at, level_at, waiting, posted, chained, bears, every, tidy, Tidy, NoLetters}
 use Rattle.post.specs.declared.Mark.{Mark}
 use Rattle.post.specs.declared.letters.Letter.{Letter}
-use Rattle.post.specs.Sets.{sets, mark_parts, not_same, same_parts, or-false, and-true}
+use Rattle.post.specs.Sets.{sets, mark_parts, not_same, same_parts, or-false}
 use Rattle.post.specs.Tables.{zero_at}
 use Rattle.post.specs.Mail.{letter_own, letter_one, absent_among, absent_from, chain_from, chain_test, visited_is}
 
@@ -149,10 +151,6 @@ module _ (heads : List ℕ) (letters letters' : List Letter) (k : Mark) (h : ℕ
 
 among_put : (j i : ℕ) (is : List ℕ) (s : Bool) → (j == i) ≡ s → among j (i ∷ is) ≡ (among j is || s)
 among_put j i is true e = rw (e, or-true (among j is))
-  where
-    or-true : (a : Bool) → (a || true) ≡ true
-    or-true true = refl
-    or-true false = refl
 among_put j i is false e = rw (e, or-false (among j is))
 
 -- a mark has its letter to itself
@@ -316,20 +314,11 @@ not_among heads letters k km off = rw km at off
 -- The first letter is taken
 
 head_tail : (i : ℕ) (is : List ℕ) → Some i ≡ head_of is → is ≡ i ∷ tail_of is
-head_tail i [] e = absurd (let z : ◌≡◌ {A = ℕ} 0 1 = cc in omega arith)
+head_tail i [] e = absurd (none-some i (sym e))
 head_tail i (j ∷ js) e = let z : i ≡ j = cc in rw z refl
 
 pub first_numbered : (n h i : ℕ) → Some i ≡ first_in n h → numbered n i ≡ true
-first_numbered n h i e =
-    ⊎_elim
-    (λ (t : numbered n h ≡ true).
-    let z : Some i ≡ Some h = e ∙ cond-true (numbered n h) (Some h) None t in
-    let y : i ≡ h = cc in
-    ap (numbered n) y ∙ t)
-    (λ (t : numbered n h ≡ false).
-    let z : Some i ≡ None = e ∙ cond-false (numbered n h) (Some h) None t in
-    absurd (let y : ◌≡◌ {A = ℕ} 0 1 = cc in omega arith))
-    (cases_Bool (numbered n h))
+first_numbered n h i e = let p = cond_some (numbered n h) h i (sym e) in ap (numbered n) (sym p.1) ∙ p.0
 
 among_take : (j i : ℕ) (is : List ℕ) (s : Bool) → Absent i is → (j == i) ≡ s → among j is ≡ (among j (i ∷ is) && not s)
 among_take j i is true a e = rw (e, eqb-true j i e) (absent_among i is a)
@@ -395,7 +384,7 @@ take_none heads letters b h order low high takes m l =
   where
     no_head : (is : List ℕ) → None ≡ head_of is → is ≡ []
     no_head [] e = refl
-    no_head (j ∷ js) e = absurd (let z : ◌≡◌ {A = ℕ} 0 1 = cc in omega arith)
+    no_head (j ∷ js) e = absurd (none-some j e)
 
 -- whether or not there is one, the letters are in order, and without one nothing changes
 module _ (heads : List ℕ) (letters : List Letter) (b h : ℕ) where

@@ -1,8 +1,16 @@
 // Sets of marks that are kept block by block, and the calls of a post over them.
-ghost use Rattle.std.specs.Prelude.{◌≡◌, ℕ, ◌<◌, ◌≤◌, Bool, true};
+ghost use Rattle.std.specs.Prelude.{◌≡◌, ℕ, ◌-◌, ◌<◌, ◌≤◌, Bool, true};
 ghost use Rattle.post.specs.Marks.{is_mark, mark_in, added, sent, send_answer, Taken, AnyAt, FoundBy};
 
 use crate::{Blocks, Mark, Refusal};
+
+// The index of what has that number: blocks and letters are numbered from 1.
+pub(crate) fn zero_based(number: u16) -> usize
+    requires { 1 ≤ number }
+    ensures { result ≡ number - 1 }
+{
+    number as usize - 1
+}
 
 // What a post needs of the store that it keeps its marks in. A block is a number here, as in a mark: a type for the numbers
 // 1 to the size would be no plainer, since each mark and each range would have to be taken apart into it.
@@ -53,7 +61,7 @@ pub(crate) trait Blockwise {
         ensures size { size self.new ≡ size self.old }
         ensures taken { Taken range.first range.last (kept self.old) (kept self.new) result }
     {
-        // no chain is plainer: each turn changes the store
+        // tried as `find_map`: the proof did not close, as nothing is known of a store that a closure changes
         for block in range.among(self.blocks()) {
             if let Some(mark) = self.take_at(block as u16) {
                 return Some(mark);
@@ -67,7 +75,7 @@ pub(crate) trait Blockwise {
         requires { (1 ≤ block) × (block ≤ size self.now) }
         ensures { AnyAt level block block (kept self.now) result }
     {
-        self.find_at(block, |mark| mark.is_at(level)).is_some()
+        self.find_at(block, |mark| mark.level == level).is_some()
     }
 
     // Whether a mark of that mark level is kept for a block of the range.

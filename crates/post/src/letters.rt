@@ -5,7 +5,7 @@ ghost use Rattle.post.specs.Marks.{mark_in, none, post_size};
 ghost use Rattle.post.specs.Letters.{letter_for, Tidy, posted};
 ghost use Rattle.post.specs.Posted.{posted_in};
 
-use crate::blockwise::Blockwise;
+use crate::blockwise::{Blockwise, zero_based};
 use crate::{Blocks, ChainPost, Mark, Post, Refusal};
 use chain::{Linked, put_first, take_first, visited};
 use std::alloc::{AllocError, Global};
@@ -98,32 +98,34 @@ impl Blockwise for Chains {
             return;
         }
         let i = letter_of(mark);
-        self.letters[i as usize - 1] = Letter {
+        self.letters[zero_based(i)] = Letter {
             entry: mark.entry,
             level: mark.level,
             next: 0,
         };
         put_first(
             &mut self.letters,
-            &mut self.heads[mark.block as usize - 1],
+            &mut self.heads[zero_based(mark.block)],
             i,
         );
     }
 
     // Takes the first letter off the block's chain.
     fn take_at(&mut self, block: u16) -> Option<Mark> {
-        let i = take_first(&self.letters, &mut self.heads[block as usize - 1])?;
-        Some(self.letters[i as usize - 1].mark_of(block))
+        let i = take_first(&self.letters, &mut self.heads[zero_based(block)])?;
+        Some(self.letters[zero_based(i)].mark_of(block))
     }
 
     // Looks through the block's chain, which has at most six letters.
     fn find_at<F: Fn(Mark) -> bool>(&self, block: u16, test: F) -> Option<Mark> {
-        visited(&self.letters, self.heads[block as usize - 1])
+        visited(&self.letters, self.heads[zero_based(block)])
             .map(|(_, letter)| letter.mark_of(block))
             .find(|mark| test(*mark))
     }
 }
 
+// Thin, and like that of the other post: a generic post over a store would put this crate's own trait
+// into its public types.
 impl Post for ChainPost {
     ghost size = { λ p. vec_len p.chains.heads };
 

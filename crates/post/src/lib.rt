@@ -38,13 +38,6 @@ impl Mark {
             && self.level <= 4
     }
 
-    // Whether it has that mark level.
-    pub(crate) fn is_at(self, level: u8) -> bool
-        ensures { result ≡ (self.level == level) }
-    {
-        self.level == level
-    }
-
     // The place of its pair of levels among the bits of a byte: 0, 1, 2, 3, 4 or 6.
     pub(crate) fn place(self) -> u8
         requires { (2 ≤ self.entry) × (self.entry ≤ self.level) × (self.level ≤ 4) }
@@ -71,7 +64,8 @@ impl Refusal {
     }
 }
 
-// A range of blocks, both ends counted. It may be any two numbers.
+// A range of blocks, both ends counted. It may be any two numbers. A type of this crate's own, since
+// a post knows nothing of plans.
 #[derive(Clone, Copy, PartialEq, Eq, Debug)]
 pub struct Blocks {
     pub first: u16,
@@ -88,7 +82,8 @@ impl Blocks {
     }
 }
 
-// Where a range names no block of the post, nothing waits in it.
+// What a post is: a size and the set of marks that wait in it, and nothing else. Where a range names
+// no block of the post, nothing waits in it.
 pub trait Post {
     ghost size: { Self → ℕ };
 
@@ -156,6 +151,7 @@ pub fn drain<P: Post, R: Receiver>(post: &mut P, range: Blocks, to: &mut R)
     ensures handed { R.got to.new ≡ either (R.got to.old) (marks_of (R.room to.old) (inside range.first range.last (P.waits post.old))) }
     ensures whole { P.size post.old ≤ R.room to.old → R.got to.new ≡ either (R.got to.old) (inside range.first range.last (P.waits post.old)) }
 {
+    // The product prescribes the form of this loop.
     loop {
         let Some(mark) = post.take(range) else {
             break;

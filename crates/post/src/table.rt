@@ -4,7 +4,7 @@ ghost use Rattle.post.specs.Marks.{mark_in, holds, none, without};
 ghost use Rattle.post.specs.Table.{kept};
 ghost use Rattle.post.specs.Tables.{kept_in};
 
-use crate::blockwise::Blockwise;
+use crate::blockwise::{Blockwise, zero_based};
 use crate::{Blocks, Mark, MarkTable, Post, Receiver, Refusal, TablePost};
 
 // The pairs of an entry level and a mark level.
@@ -29,7 +29,7 @@ impl Table {
     pub(crate) fn has(&self, mark: Mark) -> bool
         ensures { result ≡ holds (kept self.now.bytes.items) mark }
     {
-        mark.is_of(self.bytes.len()) && self.bytes[mark.block as usize - 1] >> mark.place() & 1 == 1
+        mark.is_of(self.bytes.len()) && self.bytes[zero_based(mark.block)] >> mark.place() & 1 == 1
     }
 
     fn remove(&mut self, mark: Mark)
@@ -38,7 +38,7 @@ impl Table {
         ensures size { vec_len self.new.bytes ≡ vec_len self.old.bytes }
         ensures after { kept self.new.bytes.items ≡ without mark (kept self.old.bytes.items) }
     {
-        self.bytes[mark.block as usize - 1] ^= 1 << mark.place();
+        self.bytes[zero_based(mark.block)] ^= 1 << mark.place();
     }
 }
 
@@ -54,7 +54,7 @@ impl Blockwise for Table {
     }
 
     fn put(&mut self, mark: Mark) {
-        self.bytes[mark.block as usize - 1] |= 1 << mark.place();
+        self.bytes[zero_based(mark.block)] |= 1 << mark.place();
     }
 
     fn take_at(&mut self, block: u16) -> Option<Mark> {
@@ -65,7 +65,7 @@ impl Blockwise for Table {
 
     // None at once where the block's byte is 0.
     fn find_at<F: Fn(Mark) -> bool>(&self, block: u16, test: F) -> Option<Mark> {
-        if self.bytes[block as usize - 1] == 0 {
+        if self.bytes[zero_based(block)] == 0 {
             return None;
         }
         PAIRS
@@ -79,6 +79,8 @@ impl Blockwise for Table {
     }
 }
 
+// Thin, and like that of the other post: a generic post over a store would put this crate's own trait
+// into its public types.
 impl Post for TablePost {
     ghost size = { λ p. vec_len p.table.bytes };
 

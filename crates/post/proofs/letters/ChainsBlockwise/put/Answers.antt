@@ -22,7 +22,7 @@ done c =
     let k = c.args.mark in
     let e = c.letter_of-i.ensures in
     let on = in_items heads k c.requires in
-    let t = rw (c.deref_mut.ensures.value, mark_read heads k _ c.requires c.index_mut-2.ensures.value) at c.put_first.ensures in
+    let t = rw (c.deref_mut.ensures.value, c.zero_based.ensures, mark_read heads k _ c.requires (rw c.zero_based-2.ensures at c.index_mut-2.ensures.value)) at c.put_first.ensures in
     let off = sym (same_found k (posted heads.items letters.items) _ c.find_at.result c.find_at.ensures (λ j h. search rules) (λ h. search rules)) ∙ sym c.is_some.ensures ∙ c.if-is_some.false in
     let room : 6 * length heads.items ≤ length letters.items = omega arith in
     put_done heads.items letters.items c.put_first.new.records k c.put_first.new.head c.letter_of-i.result chains.tidy room on e
@@ -33,10 +33,10 @@ invariant_of-self-clause-tidy c =
     let d = done (goal.at.invariant_of-self-clause-tidy c).After-put_first in
     let heads' = set c.args.self.now.heads.items (c.args.mark.block - 1) c.put_first.new.head in
     let P : List Letter → Type 0 = λ ls. Tidy heads' ls in
-    subst P (sym (with_items_is (with_item c.args.self.now.letters (c.letter_of-i.result - 1) _) c.put_first.new.records (c.put_first.auto.records ∙ c.deref_mut.ensures.len))) d.0
+    rw c.zero_based-2.ensures (subst P (sym (with_items_is (with_item c.args.self.now.letters c.zero_based.result _) c.put_first.new.records (c.put_first.auto.records ∙ c.deref_mut.ensures.len))) d.0)
 
 pub returns-clause-after : goal.returns-clause-after
 returns-clause-after c =
     let d = done (goal.at.returns-clause-after c).After-put_first in
     let heads' = set c.args.self.now.heads.items (c.args.mark.block - 1) c.put_first.new.head in
-    ap (posted heads') (with_items_is (with_item c.args.self.now.letters (c.letter_of-i.result - 1) _) c.put_first.new.records (c.put_first.auto.records ∙ c.deref_mut.ensures.len)) ∙ d.1
+    rw c.zero_based-2.ensures (ap (posted heads') (with_items_is (with_item c.args.self.now.letters c.zero_based.result _) c.put_first.new.records (c.put_first.auto.records ∙ c.deref_mut.ensures.len)) ∙ d.1)

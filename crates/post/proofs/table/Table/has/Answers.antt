@@ -8,7 +8,7 @@ returns-then-is_of c =
     let t = c.args.self.now.bytes in
     let k = c.args.mark in
     let on = ap (λ n. mark_in n k) (sym c.len.ensures) ∙ sym c.if-is_of.ensures in
-    rw (c.place.ensures, mark_read t k _ on c.index.ensures) (kept_mark t.items k (in_items t k on))
+    rw (c.place.ensures, mark_read t k _ on (rw c.zero_based.ensures at c.index.ensures)) (kept_mark t.items k (in_items t k on))
 
 pub returns-else-is_of : goal.returns-else-is_of
 returns-else-is_of c =

@@ -11,7 +11,7 @@ use Rattle.post.proofs.table.TableBlockwise.find_at.Goals as goal
 pub returns-then-index-eq0 : goal.returns-then-index-eq0
 returns-then-index-eq0 g c =
     let t = c.args.self.now.bytes in
-    let none = sym (block_read t c.args.block _ c.requires.block.0 c.requires.block.1 c.index.ensures) ∙ c.if-index-eq0.true in
+    let none = sym (block_read t c.args.block _ c.requires.block.0 c.requires.block.1 (rw c.zero_based.ensures at c.index.ensures)) ∙ c.if-index-eq0.true in
     record { answer = λ k e on. absurd (both_ways _ (kept_zero t.items k.block k.entry k.level (rw e none)) on) }
 
 pub returns : goal.returns
