@@ -1,4 +1,4 @@
-use Rattle.std.proofs.Common.{rules, true, false, length, ◌∙◌, ap, ◌-◌, get_or, arith}
+use Rattle.std.proofs.Common.{rules, true, false, length, ◌∙◌, ◌-◌, get_or, arith}
 use Rattle.std.proofs.lemmas.Iterator.{first_from_find, YieldsList-from_map}
 use Rattle.std.proofs.lemmas.Iterator.Consumers.{YieldsList-from_first}
 use Rattle.chain.specs.Chain.{visits}
