@@ -54,8 +54,8 @@ impl Linked for Area {
 }
 
 // Where the walk meets an area: at which level and under which parent, and how many slots come before the area's own and
-// up to its last. The parent of the top area is 0, where a climb ends as a chain ends: an Option would be taken apart at
-// each step.
+// up to its last. The parent of the top area is 0, as `parent_of` has it, by which the laws of a plan climb: an Option
+// would be no plainer, since each clause would turn it back.
 #[derive(Clone, Copy, PartialEq, Eq, Debug)]
 pub struct Place {
     pub area: u16,
@@ -74,7 +74,7 @@ pub(crate) struct Node {
 
 impl Node {
     // Whether the area stands at its own level; just the lowest areas have no child.
-    pub fn stands_right(&self) -> bool
+    pub(crate) fn stands_right(&self) -> bool
         ensures { result ≡ node_fits self.now }
     {
         let is_lowest = self.place.level == 1;

@@ -89,7 +89,7 @@ impl Plan {
         Some(self.homes[k])
     }
 
-    // The area under whose child area i stands, or 0, where a climb ends: an Option would be taken apart at each step.
+    // The area under whose child area i stands, or 0, as `Place` has it.
     #[tactic(auto, using(crate::proofs::Asked::no_parent))]
     fn parent(&self, i: u16) -> u16
         ensures { result ≡ parent_of self.now i }

@@ -49,6 +49,7 @@ impl Records {
         }
         let count = records.len() as u16;
         let mut areas = Vec::new(heap);
+        // a `for`, since the library does not say that `try_collect` fails where an item fails
         for (index, record) in records.iter().enumerate() {
             let number = index as u16 + 1;
             let area = read_record(record, number, count).ok_or(Refusal::Record(number))?;

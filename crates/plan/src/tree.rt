@@ -48,8 +48,8 @@ impl<'a> Walk<'a> {
     }
 
     // Walks the chain of areas of one level from `first` on: an area, all that stands below its child, then its next.
-    // It stops as soon as it has met more areas than there are, since then it has met one twice. `chain::visited` does not
-    // serve: it ends after as many areas as there are, and a ring is noticed one step later.
+    // It stops as soon as it has met more areas than there are, since then it has met one twice. `chain::visited` would
+    // be no plainer: it ends after as many areas as there are, so this would have to be told that it has met one before.
     fn follow(&mut self, level: u8, parent: u16, first: u16) -> Result<(), AllocError>
         ensures walked { OnOk result (Walked self.old.areas.now (walk_from self.old.areas.now level parent first self.old.slots) self.old.slots (places_in self.old.met.items) [] self.new.slots (places_in self.new.met.items)) }
         ensures same { self.new.areas ≡ self.old.areas }
@@ -94,6 +94,7 @@ impl<'a> Walk<'a> {
     fn only_node(&self, number: u16) -> Option<Node>
         ensures { result ≡ node_met self.now.areas.now (places_in self.now.met.items) number }
     {
+        // a `for`, since `find` would not notice a second one
         let mut only = None;
         for node in &self.met {
             if node.place.area == number && only.replace(*node).is_some() {
@@ -108,6 +109,7 @@ impl<'a> Walk<'a> {
         ensures { Answers (λ v. v.items) (nodes_met self.now.areas.now (places_in self.now.met.items)) result }
     {
         let mut nodes = Vec::new(heap);
+        // a `for`, since the library does not say that `try_collect` fails where an item fails
         for number in 1..=self.areas.len() as u16 {
             nodes.push(self.only_node(number).ok_or(Refusal::NotATree)?)?;
         }

@@ -13,7 +13,8 @@ pub(crate) fn zero_based(number: u16) -> usize
 }
 
 // What a post needs of the store that it keeps its marks in. A block is a number here, as in a mark: a type for the numbers
-// 1 to the size would be no plainer, since each mark and each range would have to be taken apart into it.
+// 1 to the size would be no plainer, since each mark and each range would have to be taken apart into it. That the size stays
+// stands in each call that changes a store, as in `Post`, since nothing else is known of the type.
 pub(crate) trait Blockwise {
     ghost size: { Self → ℕ };
 

@@ -10,7 +10,8 @@ use crate::{Blocks, ChainPost, Mark, Post, Refusal};
 use chain::{Linked, put_first, take_first, visited};
 use std::alloc::{AllocError, Global};
 
-// What a mark waits in: its entry level and mark level, and the number of the next letter for its block.
+// What a mark waits in: its entry level and mark level, and the number of the next letter for its block, or 0, as the
+// product prescribes links.
 #[derive(Clone, Copy, PartialEq, Eq, Debug)]
 pub struct Letter {
     pub entry: u8,

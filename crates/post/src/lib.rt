@@ -64,8 +64,8 @@ impl Refusal {
     }
 }
 
-// A range of blocks, both ends counted. It may be any two numbers. A type of this crate's own, since
-// a post knows nothing of plans.
+// A range of blocks, both ends counted. It may be any two numbers. A type of this crate's own: one
+// for blocks and a plan's slots alike would be no plainer, since this crate knows no plan.
 #[derive(Clone, Copy, PartialEq, Eq, Debug)]
 pub struct Blocks {
     pub first: u16,

@@ -226,7 +226,8 @@ fn alike<P: Post, Q: Post>(rt: &HostRuntime, pair: &mut Pair<P, Q>) -> io::Resul
             first: numbers.below(BLOCKS + 2) as u16,
             last: numbers.below(BLOCKS + 4) as u16,
         };
-        // the kind of call is drawn: of sixteen, one drains, three take and the others send
+        // a number, since it is drawn: of sixteen, one drains, three take and the others send; an enum would be made of it
+        // only to be matched at once
         let same = match call {
             0 => {
                 let (count, same) = pair.drain(range)?;

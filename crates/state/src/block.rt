@@ -60,6 +60,7 @@ impl Block {
         ensures answer { result ≡ given_back self.old hold }
         ensures after { self.new ≡ unheld_block self.old }
     {
+        // no `ok_or`, which would take the hold, and a hold can't be let go
         let Some(holds) = self.holds.checked_sub(1) else {
             return Err((Refusal::NoHold, hold));
         };

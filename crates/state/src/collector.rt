@@ -34,7 +34,7 @@ pub struct AtLevel {
 pub struct Collector {
     pub stage: Stage,
     pub levels: [AtLevel; 3],
-    // a link, so a number, with 0 for none
+    // a number, with 0 for none, as the product prescribes links
     pub free: u16,
 }
 
