@@ -128,7 +128,7 @@ chain_absent links h i [] f c = tt
 chain_absent links h i (j ∷ js) f c =
     (λ e. both_ways _ f (rw e c.1), chain_absent links (link_of links j) i js f c.3)
 
-among_absent : (i : ℕ) (js : List ℕ) → Absent i js → (false ≡ among i js) × (js ≡ without i js)
+pub among_absent : (i : ℕ) (js : List ℕ) → Absent i js → (false ≡ among i js) × (js ≡ without i js)
 among_absent i [] a = (refl, refl)
 among_absent i (j ∷ js) a =
     let t : eqb i j ≡ false = ne_eqb i j a.0 in

@@ -5,7 +5,8 @@ use Rattle.post.specs.declared.Mark.{Mark}
 use Rattle.post.specs.Marks.{Waits, none, same, without}
 use Rattle.post.specs.Orders.{Run, Whole}
 use Rattle.chain.proofs.Chains.{numbered_parts}
-use Rattle.post.specs.Sets.{sets, at, or-false}
+use Rattle.std.proofs.Math.Bool.{or-false}
+use Rattle.post.specs.Sets.{sets, at}
 use Rattle.state.specs.declared.block.Block.{Block}
 use Rattle.state.specs.declared.block.Entry.{Entry}
 use Rattle.state.specs.declared.refusal.Refusal.{Refusal}

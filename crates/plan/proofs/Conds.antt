@@ -1,14 +1,14 @@
 -- What an answer under a test tells of the test.
-use Rattle.std.proofs.Common.{◌≡◌, Bool, true, false, cond, Option, Some, None, Ok, Err, refl, arith}
+use Rattle.std.proofs.Common.{◌≡◌, Bool, true, false, cond, Option, Some, None, Ok, Err, refl, sym, arith}
 use Rattle.std.specs.Option.{ok_or}
+use Rattle.std.proofs.lemmas.Option.{cond_some}
 
 pub none_from : {X : Type 0} (b : Bool) (x : X) → None ≡ cond b (Some x) None → b ≡ false
 none_from true x e = absurd (grind (arith, e))
 none_from false x e = refl
 
 pub some_from_lem : {X : Type 0} (b : Bool) (x y : X) → Some y ≡ cond b (Some x) None → (b ≡ true) × (y ≡ x)
-some_from_lem true x y e = (refl, cc)
-some_from_lem false x y e = absurd (grind (arith, e))
+some_from_lem b x y e = let p = cond_some b x y (sym e) in (p.0, sym p.1)
 
 pub ok_from : {X E : Type 0} (b : Bool) (x y : X) (e : E) → cond b (Ok x) (Err e) ≡ Ok y → (b ≡ true) × (y ≡ x)
 ok_from true x y e h = (refl, cc)

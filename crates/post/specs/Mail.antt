@@ -1,10 +1,10 @@
 -- Chained letters: the set that they keep, after one is put into a chain and after one is taken off.
 use Rattle.std.specs.Prelude.{◌≡◌, ℕ, zero, suc, ◌-◌, ◌*◌, ◌<◌, ◌≤◌, true, false, List, [], ◌∷◌, length, ◌==◌, nat_eq, slice_index_or, refl}
 use Rattle.std.proofs.Common.{Some, map, sym, ap, ◌∙◌, ⊎_elim, arith}
-use Rattle.std.proofs.lemmas.Bool.{eqb-true, eqb-false, eq-eqb, ne_eqb, and_parts, and_from, not-true, not_from_false, cases_Bool, cond-true, cond-false, both_ways}
+use Rattle.std.proofs.lemmas.Bool.{eqb-true, eqb-false, eq-eqb, and_parts, and_from, not-true, not_from_false, cases_Bool, cond-true, cond-false, both_ways}
 use Rattle.std.proofs.lemmas.List.{get_or-map}
 use Rattle.chain.specs.Chain.{numbered, link_of, among, Absent, Chain}
-use Rattle.chain.proofs.Chains.{place_within, chain_length}
+use Rattle.chain.proofs.Chains.{among_absent, place_within, chain_length}
 use Rattle.post.specs.Marks.{is_mark}
 use Rattle.post.specs.Letters.{letter_of, walk, visited, chained, Read}
 use Rattle.post.specs.declared.letters.Letter.{Letter}
@@ -35,8 +35,7 @@ absent_from i (j ∷ js) h =
     (cases_Bool (i == j))
 
 pub absent_among : (i : ℕ) (js : List ℕ) → Absent i js → among i js ≡ false
-absent_among i [] a = refl
-absent_among i (j ∷ js) a = rw (ne_eqb i j a.0) (absent_among i js a.1)
+absent_among i js a = sym (among_absent i js a).0
 
 pub chain_from : (links : List ℕ) (head : ℕ) (is : List ℕ) → chained links head is ≡ true → Chain links head is
 chain_from links head [] h = eqb-true head 0 h

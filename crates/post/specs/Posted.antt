@@ -1,7 +1,7 @@
 -- The set that chained letters keep, after the chain of one block has changed.
 use Rattle.std.specs.declared.alloc.Global.{Global}
 use Rattle.std.specs.Prelude.{◌≡◌, ℕ, ◌-◌, ◌*◌, ◌<◌, ◌≤◌, Bool, true, false, not, ◌&&◌, ◌||◌, List, [], ◌∷◌, map, length, set, replicate, Some, None, Option, Vec, is_some, ◌==◌, ◌≢◌, nat_eq, slice_index, slice_index_or, slice_set, refl}
-use Rattle.std.proofs.Math.Bool.{and-true, or-true}
+use Rattle.std.proofs.Math.Bool.{and-true, or-false, or-true}
 use Rattle.std.proofs.Math.Path.{sym, ap}
 use Rattle.std.proofs.Common.{subst, ◌∙◌, arith}
 use Rattle.std.proofs.Math.Logic.{⊎_elim}
@@ -14,7 +14,7 @@ use Rattle.post.specs.Marks.{is_mark, mark_in, holds, same, added, without, none
 use Rattle.post.specs.Letters.{letter_of, letter_for, links_of, entry_at, level_at, waiting, posted, chained, bears, every, tidy, Tidy, NoLetters}
 use Rattle.post.specs.declared.Mark.{Mark}
 use Rattle.post.specs.declared.letters.Letter.{Letter}
-use Rattle.post.specs.Sets.{sets, mark_parts, not_same, same_parts, or-false}
+use Rattle.post.specs.Sets.{sets, mark_parts, not_same, same_parts}
 use Rattle.post.specs.Tables.{zero_at}
 use Rattle.post.specs.Mail.{letter_own, letter_one, absent_among, absent_from, chain_from, chain_test, visited_is}
 

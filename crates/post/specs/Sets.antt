@@ -1,7 +1,7 @@
 -- Marks and sets of marks. Assumes nothing.
 use Rattle.std.specs.Prelude.{◌≡◌, ℕ, ◌≤◌, Bool, true, false, cond, not, ◌&&◌, ◌||◌, refl}
 use Rattle.std.proofs.Common.{sym, ap, ◌∙◌, arith, ⊎_elim}
-use Rattle.std.proofs.Math.Bool.{and-false}
+use Rattle.std.proofs.Math.Bool.{and-false, or-false}
 use Rattle.std.proofs.Math.Path.{fun_ext}
 use Rattle.std.proofs.lemmas.Bool.{cases_Bool, and_parts}
 use Rattle.std.proofs.lemmas.Bool.Decides.{nat_tests}
@@ -14,10 +14,6 @@ sets h = fun_ext (λ b. fun_ext (λ m. fun_ext (λ l. h b m l)))
 
 pub at : {v w : Waits} → v ≡ w → (b m l : ℕ) → v b m l ≡ w b m l
 at e b m l = ap (λ (x : Waits). x b m l) e
-
-pub or-false : (a : Bool) → (a || false) ≡ a
-or-false true = refl
-or-false false = refl
 
 pub mark_parts : (n b m l : ℕ) → is_mark n b m l ≡ true → (1 ≤ b) × (b ≤ n) × (2 ≤ m) × (m ≤ l) × (l ≤ 4)
 mark_parts n b m l h = grind (arith, nat_tests)

@@ -1,7 +1,7 @@
 -- The set that a table keeps, after a write to one byte. Assumes nothing.
 use Rattle.std.specs.Prelude.{◌≡◌, ℕ, ◌-◌, ◌*◌, ◌/◌, ◌%◌, ◌^◌, ◌<◌, ◌≤◌, Bool, true, false, not, ◌&&◌, ◌||◌, List, length, replicate, Vec, ◌==◌, ◌≢◌, bit_and, bit_or, bit_xor, nat_eq, slice_index, slice_index_or, slice_set}
 use Rattle.std.proofs.Common.{sym, ◌∙◌, arith}
-use Rattle.std.proofs.Math.Bool.{and-true}
+use Rattle.std.proofs.Math.Bool.{and-true, or-false}
 use Rattle.std.proofs.Math.Path.{ap}
 use Rattle.std.proofs.Math.Logic.{⊎_elim}
 use Rattle.std.proofs.Math.Nat.{zero-div}
@@ -11,7 +11,7 @@ use Rattle.std.proofs.lemmas.Bool.{cases_Bool, cases_eq, ne_eqb, and_left, and_r
 use Rattle.std.proofs.lemmas.Bool.Decides.{nat_tests}
 use Rattle.std.proofs.lemmas.Nat.{and_mask}
 use Rattle.post.specs.Bits.{or_bit, xor_bit}
-use Rattle.post.specs.Sets.{mark_parts, not_same, sets, or-false}
+use Rattle.post.specs.Sets.{mark_parts, not_same, sets}
 use Rattle.post.specs.Marks.{is_mark, mark_in, same, added, without, none, holds}
 use Rattle.post.specs.Table.{kept, bit_on, place}
 use Rattle.post.specs.declared.Mark.{Mark}
