@@ -6,8 +6,8 @@ use Rattle.plan.specs.declared.area.Node.{Node}
 use Rattle.plan.specs.declared.area.Place.{Place}
 use Rattle.std.specs.List.{list_all}
 use Rattle.std.proofs.lemmas.Bool.{eq-eqb, ne_eqb, cond-true, cond-false}
-use Rattle.plan.specs.Tree.{every, fits, unmet, only_place, place_in, nowhere}
-use Rattle.plan.specs.Nodes.{areas_in, places_in, own_area, node_in, node_fits}
+use Rattle.plan.specs.Tree.{node_fits, every, fits, unmet, only_place, place_in, nowhere}
+use Rattle.plan.specs.Nodes.{areas_in, places_in, own_area, node_in}
 use Rattle.plan.specs.Walk.{area_at}
 
 -- what a list of nodes has past its end

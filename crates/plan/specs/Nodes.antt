@@ -1,5 +1,5 @@
 -- Areas with the places where the walk meets them.
-use Rattle.std.specs.Prelude.{ℕ, Bool, cond, ◌&&◌, List, map, length, is_some, Some, None, Ok, Err, Option, Result, ◌==◌, nat_le}
+use Rattle.std.specs.Prelude.{ℕ, cond, List, map, length, is_some, Some, None, Ok, Err, Option, Result}
 use Rattle.std.specs.List.{range_with_len}
 use Rattle.plan.specs.declared.area.Area.{Area}
 use Rattle.plan.specs.declared.area.Node.{Node}
@@ -32,7 +32,3 @@ node_met areas ps i = cond (is_some (only_place ps i)) (Some (node_in areas ps i
 -- The areas by number, each having just one place.
 abbrev pub nodes_met : List Area → List Place → Result (List Node) Refusal
 nodes_met areas ps = cond (every (λ i. is_some (only_place ps i)) (range_with_len 1 (length areas))) (Ok (map (node_in areas ps) (range_with_len 1 (length areas)))) (Err NotATree)
-
--- The area has the level at which the walk meets it; just the lowest areas have no child.
-abbrev pub node_fits : Node → Bool
-node_fits n = (n.area.level == n.place.level) && cond (n.place.level == 1) (n.area.child == 0) (nat_le 1 n.area.child)

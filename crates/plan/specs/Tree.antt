@@ -5,6 +5,7 @@ use Rattle.std.specs.Option.{unwrap_or}
 use Rattle.plan.specs.declared.refusal.Refusal.{Refusal}
 use Rattle.plan.specs.declared.refusal.Refusal.TheVariants.{NotATree}
 use Rattle.plan.specs.declared.area.Area.{Area}
+use Rattle.plan.specs.declared.area.Node.{Node}
 use Rattle.plan.specs.declared.area.Place.{Place}
 use Rattle.plan.specs.Walk.{area_at, walk_of, slots_in}
 
@@ -14,10 +15,12 @@ every ok [] = true
 every ok (x ∷ xs) = ok x && every ok xs
 
 -- The area has the level at which the walk meets it; just the lowest areas have no child.
+abbrev pub node_fits : Node → Bool
+node_fits n = (n.area.level == n.place.level) && cond (n.place.level == 1) (n.area.child == 0) (nat_le 1 n.area.child)
+
+-- The same of the area that stands at a place.
 abbrev pub fits : List Area → Place → Bool
-fits areas p =
-    ((area_at areas p.area).level == p.level) &&
-    cond (p.level == 1) ((area_at areas p.area).child == 0) (nat_le 1 (area_at areas p.area).child)
+fits areas p = node_fits (record { area = area_at areas p.area; place = p })
 
 -- The walk does not meet area i.
 abbrev pub unmet : List Place → ℕ → Bool

@@ -1,7 +1,7 @@
 // What a plan's record says of an area, and where the walk meets the area.
 ghost use Rattle.std.specs.Prelude.{◌≡◌, ◌≤◌};
 ghost use Rattle.std.proofs.Common.{rules};
-ghost use Rattle.plan.specs.Nodes.{node_fits};
+ghost use Rattle.plan.specs.Tree.{node_fits};
 ghost use Rattle.plan.specs.Reading.{slots_right};
 
 use chain::Linked;

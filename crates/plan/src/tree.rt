@@ -2,8 +2,8 @@
 ghost use Rattle.std.specs.Prelude.{◌≡◌, ◌+◌, ◌*◌, ◌≤◌, [], map, length, IfOk, OnOk};
 ghost use Rattle.std.specs.List.{list_all};
 ghost use Rattle.plan.specs.Answers.{Answers};
-ghost use Rattle.plan.specs.Nodes.{areas_in, places_in, node_met, nodes_met, node_fits, own_area};
-ghost use Rattle.plan.specs.Tree.{homes_in, order_of};
+ghost use Rattle.plan.specs.Nodes.{areas_in, places_in, node_met, nodes_met, own_area};
+ghost use Rattle.plan.specs.Tree.{node_fits, homes_in, order_of};
 ghost use Rattle.plan.specs.Walk.{Walked, walk_from};
 
 use crate::area::{Area, Node, Place};
