@@ -32,7 +32,7 @@ feeds_line : (row : Row) → line_feeds (line row) ≡ 1
 unfolding line
 feeds_line row = simp (feeds_append, feeds_decimal) (omega arith)
 
-feeds_listing : (rows : List Row) → line_feeds (listing rows) ≡ length rows
+pub feeds_listing : (rows : List Row) → line_feeds (listing rows) ≡ length rows
 feeds_listing [] = refl
 feeds_listing (row ∷ rows) = omega (arith, feeds_append (line row) (listing rows), feeds_line row, feeds_listing rows)
 

@@ -18,6 +18,16 @@ written_more out at s t room =
     rw (← append_assoc (take at out) s (drop n out), take_at p (drop n out) n front, after, length-append s t, append_assoc (take at out) s (t ++ drop (n + length t) out), append_assoc s t)
     (rw (add_assoc at (length s) (length t)))
 
+-- a text of k bytes that was written up to an end, as one written from its place on
+pub written_to : (old new text : List ℕ) (at start k : ℕ) → k ≡ length text → start + length text ≡ at + k → drop start new ≡ text ++ drop (at + k) old → take start new ≡ take start old → new ≡ written old at text
+unfolding written
+written_to old new text at start k long from here before =
+    let same : start ≡ at = omega (arith, from, long) in
+    sym (take-append-drop start new) ∙ ap (λ xs. xs ++ drop start new) before
+    ∙ ap (λ xs. take start old ++ xs) here
+    ∙ ap (λ p. take p old ++ (text ++ drop (at + k) old)) same
+    ∙ ap (λ n. take at old ++ (text ++ drop (at + n) old)) long
+
 -- no text is put where nothing changes
 pub puts_nothing : (lines : Writer) → lines.at ≤ length lines.out.now → Puts lines lines []
 unfolding written

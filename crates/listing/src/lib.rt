@@ -1,12 +1,12 @@
 //! The listing of an airport memory's areas: a line of text for each area, into memory that the caller lends.
 #![tactic(auto)]
 
-ghost use Rattle.std.specs.Prelude.{◌≡◌, ◌≤◌, ◌^◌, ◌++◌, length, take, drop, IfOk, if◌then◌else◌, Some, None, Ok, Err, nat_le, nat_lt};
+ghost use Rattle.std.specs.Prelude.{◌≡◌, ◌+◌, ◌≤◌, ◌++◌, length, take, drop, IfOk, if◌then◌else◌, Some, None, Ok, Err, decimal, nat_le};
 ghost use Rattle.listing.specs.declared.Refusal.TheVariants.{Short};
-ghost use Rattle.listing.specs.Listing.{line, listing, line_feeds, refusal_number};
+ghost use Rattle.listing.specs.Listing.{field, line, listing, line_feeds, refusal_number};
 ghost use Rattle.listing.specs.Writing.{HasRoom, Puts};
 
-use itoa::{Buffer, Integer};
+use itoa::write_digits;
 
 /// One area of the memory: its number, its level, and how many of its slots are used and free.
 #[derive(Clone, Copy, PartialEq, Eq, Debug)]
@@ -38,12 +38,19 @@ impl Refusal {
 /// The bytes of a line that are the same in every line: its words, its blanks and its line feed.
 const FIXED: usize = b"area  level  used  free \n".len();
 
-/// How many bytes the digits of `n` have.
-fn digit_count<I: Integer>(n: I) -> usize
-    ensures exact { result ≡ length (I.text n) }
-    ensures few { result ≤ 40 }
+/// How many decimal digits `n` has.
+#[tactic(auto, using(crate::proofs::Digits::one, crate::proofs::Digits::two, crate::proofs::Digits::three, crate::proofs::Digits::four, crate::proofs::Digits::five))]
+fn digit_count(n: u16) -> usize
+    ensures exact { result ≡ length (decimal n) }
+    ensures few { result ≤ 5 }
 {
-    Buffer::new().format(n).len()
+    match n {
+        0..=9 => 1,
+        10..=99 => 2,
+        100..=999 => 3,
+        1000..=9999 => 4,
+        _ => 5,
+    }
 }
 
 /// How many bytes the line of `row` has.
@@ -53,18 +60,26 @@ fn line_length(row: &Row) -> usize
 {
     FIXED
         + digit_count(row.area)
-        + digit_count(row.level)
+        + digit_count(u16::from(row.level))
         + digit_count(row.used)
         + digit_count(row.free)
 }
 
-/// How many bytes the listing of `rows` has, if a `usize` can hold that.
-fn listing_length(rows: &[Row]) -> Option<usize>
-    ensures { let size = length (listing rows.now) in
-        result ≡ (if nat_lt size (2 ^ 64) then Some size else None) }
+/// The sum of `a` and `b`, where it is at most `room`.
+fn sum_within(a: usize, b: usize, room: usize) -> Option<usize>
+    ensures { result ≡ (if nat_le (a + b) room then Some (a + b) else None) }
+{
+    a.checked_add(b).filter(|sum| *sum <= room)
+}
+
+/// How many bytes the listing of `rows` has, where it has at most `room`.
+///
+/// The sum is broken off at the first line that does not fit, so a refusal reads no rows past it.
+fn listing_length(rows: &[Row], room: usize) -> Option<usize>
+    ensures { result ≡ (if nat_le (length (listing rows.now)) room then Some (length (listing rows.now)) else None) }
 {
     rows.iter()
-        .try_fold(0usize, |total, row| total.checked_add(line_length(row)))
+        .try_fold(0, |total, row| sum_within(total, line_length(row), room))
 }
 
 /// The memory that the caller lends, and the place in it where the next text goes.
@@ -90,17 +105,21 @@ impl Writer<'_> {
     }
 
     /// Writes the digits of `n`.
-    fn put_number<I: Integer>(&mut self, n: I)
-        requires { HasRoom self.old (I.text n) }
-        ensures { Puts self.old self.new (I.text n) }
+    #[tactic(auto, using(crate::proofs::Texts::written_to))]
+    fn put_number(&mut self, n: u16)
+        requires { HasRoom self.old (decimal n) }
+        ensures { Puts self.old self.new (decimal n) }
     {
-        self.put(Buffer::new().format(n).as_bytes());
+        let end = self.at + digit_count(n);
+        write_digits(u64::from(n), self.out, end);
+        self.at = end;
     }
 
-    /// Writes `word` and then the number `n`.
-    fn put_field<I: Integer>(&mut self, word: &[u8], n: I)
-        requires { HasRoom self.old (word.now ++ I.text n) }
-        ensures { Puts self.old self.new (word.now ++ I.text n) }
+    /// Writes `word` and then the number `n`. Inlined, so that each word is copied with the length that it has.
+    #[inline]
+    fn put_field(&mut self, word: &[u8], n: u16)
+        requires { HasRoom self.old (field word.now n) }
+        ensures { Puts self.old self.new (field word.now n) }
     {
         self.put(word);
         self.put_number(n);
@@ -113,7 +132,7 @@ impl Writer<'_> {
         ensures { Puts self.old self.new (line row.now) }
     {
         self.put_field(b"area ", row.area);
-        self.put_field(b" level ", row.level);
+        self.put_field(b" level ", u16::from(row.level));
         self.put_field(b" used ", row.used);
         self.put_field(b" free ", row.free);
         self.put(b"\n");
@@ -138,9 +157,7 @@ pub fn write_listing(rows: &[Row], out: &mut [u8]) -> Result<usize, Refusal>
     ensures after { out.new ≡ (if nat_le (length (listing rows.now)) (length out.old) then listing rows.now ++ drop (length (listing rows.now)) out.old else out.old) }
     ensures lines { IfOk result (λ n. line_feeds (take n out.new) ≡ length rows.now) }
 {
-    let size = listing_length(rows)
-        .filter(|size| *size <= out.len())
-        .ok_or(Refusal::Short)?;
+    let size = listing_length(rows, out.len()).ok_or(Refusal::Short)?;
     Writer { out, at: 0 }.put_lines(rows);
     Ok(size)
 }

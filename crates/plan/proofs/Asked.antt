@@ -1,12 +1,11 @@
 -- What an accepted plan's tables hold.
-use Rattle.std.proofs.Common.{◌≡◌, ℕ, zero, suc, ◌+◌, ◌-◌, ◌<◌, ◌≤◌, Bool, true, false, cond, eqb, List, [], ◌∷◌, ◌++◌, length, get_or, replicate, Some, None, sum_by, Option, unwrap_or, sym, refl, ap, ◌∙◌, subst, arith}
-use Rattle.std.specs.List.{AllByRecursion, find, fold, range_with_len}
-use Rattle.std.specs.Option.{option_or}
+use Rattle.std.proofs.Common.{◌≡◌, ℕ, zero, suc, ◌+◌, ◌≤◌, true, false, eqb, List, [], ◌∷◌, ◌++◌, length, get_or, replicate, None, sum_by, Option, unwrap_or, sym, refl, ap, ◌∙◌, subst, add-one, arith}
+use Rattle.std.specs.List.{AllByRecursion, fold, range_with_len}
 use Rattle.std.proofs.lemmas.List.FromFn.{get_or-map-range_with_len}
 use Rattle.std.proofs.ByRecursion.{All-append, All-weaker}
 use Rattle.std.proofs.lemmas.List.{length-append, length-replicate}
 use Rattle.std.proofs.lemmas.List.Sums.{sum_by-cons, sum_by-append}
-use Rattle.std.proofs.lemmas.Bool.{cond_both, ne_eqb, both_ways}
+use Rattle.std.proofs.lemmas.Bool.{cond_both, cond-true, cond-false, eq-eqb, ne_eqb, both_ways}
 use Rattle.chain.specs.Chain.{place, numbered}
 use Rattle.chain.proofs.Chains.{numbered_parts, place_within}
 use Rattle.plan.specs.declared.area.Area.{Area}
@@ -102,17 +101,15 @@ unfolding climb
 climb_folds f zero a i = refl
 climb_folds f (suc k) a i = climb_folds f k (a + 1) (f i) ∙ climb_first f k i
 
--- the common level is the first level at which the areas over x and y are one, and at the top they are
-pub meet_found : (f : ℕ → ℕ) (test : ℕ → Bool) (x y top k m l : ℕ) → l ≡ m + 1 → l + k ≡ top → ((i : ℕ) → 1 ≤ i → i < top → test i ≡ eqb (climb f (i - 1) x) (climb f (i - 1) y)) → option_or (find test (range_with_len l k)) (Some top) ≡ Some (meet_from f k l (climb f m x) (climb f m y))
-unfolding meet_from climb
-meet_found f test x y top zero m l lm lk same = let e : top ≡ l = omega (arith, lk) in ap (λ i. Some i) e
-meet_found f test x y top (suc k) m l lm lk same =
-    let at : l - 1 ≡ m = omega (arith, lm) in
-    let here : test l ≡ eqb (climb f m x) (climb f m y) = same l (omega (arith, lm)) (omega (arith, lk)) ∙ ap (λ i. eqb (climb f i x) (climb f i y)) at in
-    let behind = find test (range_with_len (l + 1) k) in
-    ap (λ b. option_or (cond b (Some l) behind) (Some top)) here
-    ∙ step (eqb (climb f m x) (climb f m y)) behind _ (meet_found f test x y top k (suc m) (l + 1) (omega (arith, lm)) (omega (arith, lk)) same)
-  where
-    step : (b : Bool) (found : Option ℕ) (more : ℕ) → option_or found (Some top) ≡ Some more → option_or (cond b (Some l) found) (Some top) ≡ Some (cond b l more)
-    step true found more e = refl
-    step false found more e = e
+pub meet_none : (areas : List Area) (k l x y : ℕ) → k ≡ 0 → meet_from (parent_of areas) k l x y ≡ l
+unfolding meet_from
+meet_none areas k l x y e = rw e
+
+pub meet_here : (areas : List Area) (k l x y : ℕ) → x ≡ y → meet_from (parent_of areas) k l x y ≡ l
+unfolding meet_from
+meet_here areas zero l x y e = refl
+meet_here areas (suc k) l x y e = cond-true _ _ _ (eq-eqb x y e)
+
+pub meet_more : (areas : List Area) (k m l x y : ℕ) → k ≡ m + 1 → (x ≡ y → ⊥) → meet_from (parent_of areas) k l x y ≡ meet_from (parent_of areas) m (l + 1) (parent_of areas x) (parent_of areas y)
+unfolding meet_from
+meet_more areas k m l x y km ne = rw (km, add-one) (cond-false _ _ _ (ne_eqb x y ne))

@@ -9,14 +9,14 @@ use Rattle.plan.specs.Reading.{first_wrong}
 use Rattle.plan.specs.Tree.{every}
 
 module _ (ok : ℕ → Bool) where
-  wrong_none : (i k : ℕ) → k ≡ 0 → first_wrong ok i k ≡ None
+  pub wrong_none : (i k : ℕ) → k ≡ 0 → first_wrong ok i k ≡ None
   wrong_none i k e = rw e
 
-  wrong_here : (i k : ℕ) → 0 < k → ok i ≡ false → first_wrong ok i k ≡ Some i
+  pub wrong_here : (i k : ℕ) → 0 < k → ok i ≡ false → first_wrong ok i k ≡ Some i
   wrong_here i zero l e = absurd (omega arith)
   wrong_here i (suc k) l e = rw e
 
-  wrong_more : (i j k m : ℕ) → j ≡ i + 1 → k ≡ m + 1 → ok i ≡ true → first_wrong ok i k ≡ first_wrong ok j m
+  pub wrong_more : (i j k m : ℕ) → j ≡ i + 1 → k ≡ m + 1 → ok i ≡ true → first_wrong ok i k ≡ first_wrong ok j m
   wrong_more i j k m ji km e = rw (km, add-one, e, ji)
 
 -- where none is wrong, each passes

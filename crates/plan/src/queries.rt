@@ -114,8 +114,16 @@ impl Plan {
         if !self.is_lowest(x) || !self.is_lowest(y) {
             return None;
         }
-        (1..self.top_level())
-            .find(|&level| self.area_over(x, level) == self.area_over(y, level))
-            .or(Some(self.top_level()))
+        let mut over_x = x;
+        let mut over_y = y;
+        // tried as a `find` over the levels: it climbs anew to each
+        for level in 1..self.top_level() {
+            if over_x == over_y {
+                return Some(level);
+            }
+            over_x = self.parent(over_x);
+            over_y = self.parent(over_y);
+        }
+        Some(self.top_level())
     }
 }

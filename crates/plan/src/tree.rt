@@ -120,7 +120,7 @@ impl<'a> Walk<'a> {
     pub(crate) fn homes(&self, heap: Global) -> Result<Vec<u16>, AllocError>
         ensures { IfOk result (λ v. v.items ≡ homes_in self.now.areas.now (places_in self.now.met.items)) }
     {
-        let mut homes = Vec::new(heap);
+        let mut homes = Vec::with_capacity(heap, self.slots as usize)?;
         for node in &self.met {
             homes.resize(homes.len() + usize::from(node.area.slots), node.place.area)?;
         }

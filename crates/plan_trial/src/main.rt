@@ -19,22 +19,28 @@ fn digit(c: u8) -> Option<u8> {
     }
 }
 
-fn byte_of(pair: &[u8]) -> anyhow::Result<u8> {
+// The byte of two digits, or what is wrong with them.
+fn byte_of(pair: &[u8]) -> Result<u8, &'static str> {
     let [high, low] = pair else {
-        bail!("\"half a byte\"");
+        return Err("half a byte");
     };
-    let (Some(high), Some(low)) = (digit(*high), digit(*low)) else {
-        bail!("\"not hexadecimal\"");
-    };
-    Ok(high << 4 | low)
+    match (digit(*high), digit(*low)) {
+        (Some(high), Some(low)) => Ok(high << 4 | low),
+        _ => Err("not hexadecimal"),
+    }
 }
 
 // The bytes of a line, up to its note.
 fn bytes_of(heap: Global, line: &[u8]) -> anyhow::Result<Vec<u8>> {
-    line.chunks(2)
-        .take_while(|pair| !pair.starts_with(b" "))
-        .map(byte_of)
-        .try_collect(heap)
+    let mut bytes = Vec::new(heap);
+    // a `for`: `try_collect` makes of each byte a result with room for an error, and takes half as long again
+    for pair in line.chunks(2).take_while(|pair| !pair.starts_with(b" ")) {
+        match byte_of(pair) {
+            Ok(byte) => bytes.push(byte)?,
+            Err(what) => bail!("\"{what}\""),
+        }
+    }
+    Ok(bytes)
 }
 
 fn main(rt: HostRuntime) -> anyhow::Result<()> {

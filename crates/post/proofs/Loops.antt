@@ -36,7 +36,7 @@ abbrev pub AnyOf : {X : Type 0} → (X → Type 0) → (X → Type 0) → List X
 AnyOf Pass Fail xs r = MatchBool r ((k : ℕ) × (k < length xs) × HoldsAt Pass xs k) (AllWithin Fail xs 0 (length xs))
 
 module _ (n : ℕ) (w : Waits) (bound : (b m l : ℕ) → w b m l ≡ true → is_mark n b m l ≡ true) (first last : ℕ) where
-  never : (b m l : ℕ) → ((1 ≤ b) × (b ≤ n) × (2 ≤ m) × (m ≤ l) × (l ≤ 4) → ⊥) → w b m l ≡ false
+  pub never : (b m l : ℕ) → ((1 ≤ b) × (b ≤ n) × (2 ≤ m) × (m ≤ l) × (l ≤ 4) → ⊥) → w b m l ≡ false
   never b m l wrong =
       ⊎_elim (λ (on : w b m l ≡ true). absurd (wrong (mark_parts n b m l (bound b m l on)))) (λ off. off) (cases_Bool (w b m l))
 

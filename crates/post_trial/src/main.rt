@@ -6,9 +6,12 @@ ghost use Rattle.std.specs.Prelude.{◌<◌};
 
 use post::{Blocks, ChainPost, Letter, Mark, MarkTable, Post, TablePost, drain};
 use std::alloc::{AllocError, Global};
-use std::io;
+use std::{array, io};
 
 const BLOCKS: u8 = 9;
+
+// The blocks that are tried: those of the posts, and one more at either end.
+const TRIED: u16 = BLOCKS as u16 + 2;
 
 const CALLS: u32 = 4000;
 
@@ -81,18 +84,9 @@ fn mark(block: u16, entry: u8, level: u8) -> Mark {
     }
 }
 
-// Every mark of the blocks below `blocks`, and what is nearly one.
-fn candidates(heap: Global, blocks: u16) -> Result<Vec<Mark>, AllocError> {
-    let mut marks = Vec::new(heap);
-    // tried as nested `flat_map`s: that the collecting ends was not proved
-    for block in 0..blocks {
-        for entry in 0..6 {
-            for level in 0..6 {
-                marks.push(mark(block, entry, level))?;
-            }
-        }
-    }
-    Ok(marks)
+// Every pair of an entry level and a mark level, and what is nearly one. They are tried on each block.
+fn pairs() -> [(u8, u8); 36] {
+    array::from_fn(|i| ((i / 6 % 6) as u8, (i % 6) as u8))
 }
 
 // A linear congruential generator.
@@ -117,14 +111,23 @@ impl Numbers {
     }
 }
 
+// Inlined, so that the search for a mark is compiled for the range where that is known.
+#[inline]
 fn drained<P: Post>(heap: Global, post: &mut P, range: Blocks) -> Result<MarkTable, AllocError> {
     let mut marks = MarkTable::new(vec![in heap; 255; 1024]?);
     drain(post, range, &mut marks);
     Ok(marks)
 }
 
-fn count(marks: &MarkTable, candidates: &[Mark]) -> usize {
-    candidates.iter().filter(|mark| marks.has(**mark)).count()
+// How many marks of the blocks below `blocks` are in the table.
+fn count(marks: &MarkTable, blocks: u16) -> usize {
+    (0..blocks).fold(0usize, |total, block| {
+        let found = pairs()
+            .iter()
+            .filter(|(entry, level)| marks.has(mark(block, *entry, *level)))
+            .count();
+        total.saturating_add(found)
+    })
 }
 
 // A post of three blocks at its edges.
@@ -154,32 +157,33 @@ fn edges<P: Post>(rt: &HostRuntime, post: &mut P) -> io::Result<()> {
 
 // Every mark is sent twice, and all are taken out.
 fn fill<P: Post>(rt: &HostRuntime, post: &mut P) -> io::Result<()> {
-    let heap = rt.alloc();
-    let marks = candidates(heap, post.size().saturating_add(2))?;
     let mut sent = 0u32;
-    for mark in marks.iter().chain(marks.iter()) {
-        if post.send(*mark).is_ok() {
-            sent = sent.saturating_add(1);
+    for _ in 0..2 {
+        for block in 0..post.size().saturating_add(2) {
+            for (entry, level) in pairs() {
+                if post.send(mark(block, entry, level)).is_ok() {
+                    sent = sent.saturating_add(1);
+                }
+            }
         }
     }
     let size = post.size();
-    let handed = count(&drained(heap, post, ALL)?, &candidates(heap, 1026)?);
+    let handed = count(&drained(rt.alloc(), post, ALL)?, 1026);
     let left = post.take(ALL).is_some();
     println!(rt; "  size {size}: accepted {sent}, handed on {handed}, left {left}")
 }
 
-// Two posts that get the same calls, and the marks that are tried on them.
+// Two posts that get the same calls.
 #[derive(Drop)]
 struct Pair<P, Q> {
     heap: Global,
     one: P,
     other: Q,
-    candidates: Vec<Mark>,
 }
 
 impl<P: Post, Q: Post> Pair<P, Q> {
     fn same_levels(&self) -> bool {
-        (0..BLOCKS as u16 + 2).all(|block| {
+        (0..TRIED).all(|block| {
             let range = blocks(block, block);
             (0..6).all(|level| {
                 self.one.any_at_level(level, range) == self.other.any_at_level(level, range)
@@ -191,11 +195,13 @@ impl<P: Post, Q: Post> Pair<P, Q> {
     fn drain(&mut self, range: Blocks) -> Result<(usize, bool), AllocError> {
         let marks = drained(self.heap, &mut self.one, range)?;
         let others = drained(self.heap, &mut self.other, range)?;
-        let same = self
-            .candidates
-            .iter()
-            .all(|mark| marks.has(*mark) == others.has(*mark));
-        Ok((count(&marks, &self.candidates), same))
+        let same = (0..TRIED).all(|block| {
+            pairs().iter().all(|(entry, level)| {
+                let mark = mark(block, *entry, *level);
+                marks.has(mark) == others.has(mark)
+            })
+        });
+        Ok((count(&marks, TRIED), same))
     }
 
     // Takes a mark from one and the same mark from the other, which may pick another by itself: all
@@ -205,9 +211,10 @@ impl<P: Post, Q: Post> Pair<P, Q> {
             return Ok(self.other.take(range).is_none());
         };
         let marks = drained(self.heap, &mut self.other, blocks(taken.block, taken.block))?;
-        for mark in &self.candidates {
-            if mark.block == taken.block && *mark != taken && marks.has(*mark) {
-                let _ = self.other.send(*mark);
+        for (entry, level) in pairs() {
+            let mark = mark(taken.block, entry, level);
+            if mark != taken && marks.has(mark) {
+                let _ = self.other.send(mark);
             }
         }
         Ok(marks.has(taken) && (range.first..=range.last).contains(&taken.block))
@@ -269,7 +276,6 @@ fn main(rt: HostRuntime) -> io::Result<()> {
             heap,
             one: table_post(heap, BLOCKS as usize)?,
             other: chain_post(heap, 6 * BLOCKS as usize)?,
-            candidates: candidates(heap, BLOCKS as u16 + 2)?,
         },
     )
 }
